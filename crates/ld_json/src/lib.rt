@@ -1,0 +1,11 @@
+//! JSON trees: what a document is once it has been read, and its compact text.
+//!
+//! A [`Tree`] is a JSON value (RFC 8259) whose numbers are whole, or the number 1.1. Contracts see a [`Text`] as its
+//! bytes, [`Trees`] as a list of trees, and [`Members`] as a list of pairs of key and tree whose keys strictly ascend.
+#![tactic(auto)]
+
+mod string;
+mod value;
+
+pub use string::Text;
+pub use value::{Members, Tree, Trees};
