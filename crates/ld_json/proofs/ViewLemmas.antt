@@ -189,3 +189,20 @@ member_is_lighter self members ms i m is same within at =
     let more = sum_by_more_le (λ x. weight (view x.1)) ms i m within in
     let whole = members_weight-view ms in
     rw (is, ← same) (subst (λ (x : List ℕ × Tree). weight (view x.1) < 1 + members_weight (members_of (members_view ms))) (sym at) (omega arith))
+
+-- Where members ascend, those ahead of a place come before its key.
+first_before : (xs : model.Pairs) (k : List ℕ) (m : List ℕ × model.Tree) (ns : model.Pairs) → AllByRecursion (λ y. byte_order k y ≡ Less) (keys_of (xs ++ m ∷ ns)) → byte_order k m.0 ≡ Less
+first_before [] k m ns all = all.0
+first_before (x ∷ xs) k m ns all = first_before xs k m ns all.1
+
+before_place : (ms : model.Pairs) (m : List ℕ × model.Tree) (ns : model.Pairs) → AreAscending (ms ++ m ∷ ns) → AreBefore ms m.0
+unfolding IsStrictlySortedBy
+before_place [] m ns sorted = tt
+before_place (l ∷ ms) m ns sorted = (first_before ms l.0 m ns sorted.0, before_place ms m ns sorted.1)
+
+pub before_index : (ms : List (List ℕ × Tree)) (i : ℕ) (m : List ℕ × Tree) → AreAscending (members_view ms) → i < length ms → m ≡ get_or ms i m → AreBefore (members_view (take i ms)) m.0
+before_index ms i m sorted within at =
+    let rest : drop i ms ≡ m ∷ drop (i + 1) ms = rw (add-one, drop-cons ms i m within, ← at) in
+    let parts : members_view ms ≡ members_view (take i ms) ++ (m.0, view m.1) ∷ members_view (drop (i + 1) ms) =
+    ap members_view (sym (take-append-drop i ms)) ∙ map-append member_view (take i ms) (drop i ms) ∙ ap (λ l. members_view (take i ms) ++ members_view l) rest in
+    before_place (members_view (take i ms)) (m.0, view m.1) (members_view (drop (i + 1) ms)) (subst AreAscending parts sorted)

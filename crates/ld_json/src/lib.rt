@@ -4,8 +4,15 @@
 //! bytes, [`Trees`] as a list of trees, and [`Members`] as a list of pairs of key and tree whose keys strictly ascend.
 #![tactic(auto)]
 
+mod copying;
+mod location;
+mod reading;
 mod string;
 mod value;
+mod writing;
 
+pub use location::{Place, Step};
+pub use reading::{ReadRefusal, read_tree};
 pub use string::Text;
 pub use value::{Members, Tree, Trees};
+pub use writing::text_of;

@@ -1,0 +1,36 @@
+// Equal trees, and how many values a tree has.
+ghost use Rattle.std.specs.Prelude.{◌≡◌, ◌-◌, ◌^◌, min, IfOk};
+ghost use Rattle.ld_model.specs.Tree.{weight as tree_weight};
+ghost use Rattle.ld_json.specs.View.{view};
+
+use crate::value::{Members, Tree, Trees};
+use std::alloc::{AllocError, Global};
+
+impl Tree {
+    /// An equal tree.
+    pub fn copy(&self, alloc: Global) -> Result<Tree, AllocError>
+        ensures { IfOk result (λ t. view t ≡ view self.now) }
+    {
+        match self {
+            Tree::Null => Ok(Tree::Null),
+            Tree::Truth(truth) => Ok(Tree::Truth(*truth)),
+            Tree::Whole(number) => Ok(Tree::Whole(*number)),
+            Tree::OneOne => Ok(Tree::OneOne),
+            Tree::Str(text) => Ok(Tree::Str(text.copy(alloc)?)),
+            Tree::Items(trees) => {
+                let mut items = Trees::new(alloc);
+                for tree in trees.as_slice() {
+                    items.push(tree.copy(alloc)?)?;
+                }
+                Ok(Tree::Items(items))
+            }
+            Tree::Map(members) => {
+                let mut pairs = Members::new(alloc);
+                for (key, tree) in members.as_slice() {
+                    pairs.append(key.copy(alloc)?, tree.copy(alloc)?)?;
+                }
+                Ok(Tree::Map(pairs))
+            }
+        }
+    }
+}
