@@ -2,3 +2,8 @@ pub mod Tree
 pub mod TreeCode
 pub mod CompactText
 pub mod Label
+pub mod Iri
+pub mod Keys
+pub mod Plain
+pub mod NodeMap
+pub mod Flatten

@@ -1,5 +1,5 @@
 -- How the logic stores a tree: each tree as one code, from which it can be read back.
-use Rattle.std.specs.Prelude.{ℕ, zero, suc, ◌≡◌, ℤ, pos, negsuc, Bool, true, false, List, [], ◌∷◌, refl}
+use Rattle.std.specs.Prelude.{ℕ, zero, suc, ◌≡◌, pos, negsuc, true, false, List, [], ◌∷◌, refl}
 use mathlib.Core.Path.{sym, ◌∙◌, ap}
 use base.Stored.{Gv, gnil, gnum, gcons, Coded, num}
 use Rattle.ld_model.specs.Tree.{Tree, null, truth, whole, one_one, text, array, object, Trees, no_trees, tree, Members, no_members, member}
