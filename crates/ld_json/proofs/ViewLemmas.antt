@@ -1,12 +1,12 @@
 -- Laws of the lists that trees are made of.
-use Rattle.std.proofs.Common.{◌≡◌, ℕ, zero, suc, ◌+◌, ◌-◌, ◌<◌, List, [], ◌∷◌, ◌++◌, length, get_or, take, drop, insert, set, refl, ap, ap₂, ◌∙◌, sym, subst, arith, true, false, Ok, Err, Some, None, Ordering, Less, Equal, Greater, Bool, take-append-drop, drop-cons, add-one}
+use Rattle.std.proofs.Common.{◌≡◌, ℕ, zero, suc, ◌+◌, ◌-◌, ◌<◌, ◌≤◌, ◌&&◌, List, [], ◌∷◌, ◌++◌, length, get_or, take, drop, insert, set, refl, ap, ap₂, ◌∙◌, sym, subst, arith, true, false, Ok, Err, Some, None, Ordering, Less, Equal, Greater, Bool, take-append-drop, drop-cons, add-one}
 use Rattle.std.proofs.lemmas.List.{map-append, length-map}
 use Rattle.std.specs.Prelude.{sum_by, map, remove, slice_get}
 use Rattle.std.proofs.lemmas.List.Sums.{sum_by-cons, sum_by_more_le}
 use Rattle.std.specs.List.{AllByRecursion}
 use Rattle.std.specs.List.Sorted.{IsStrictlySortedBy}
 use Rattle.std.proofs.lemmas.Map.{NonePasses, lookup-none}
-use Rattle.std.specs.Map.{keys_of, values_of, lookup, remove_entry}
+use Rattle.std.specs.Map.{keys_of, values_of, lookup, remove_entry, set_value}
 use Rattle.std.specs.BTreeMap.{is_at, insert_entry}
 use Rattle.std.specs.Ordering.{is_lt, is_le, match_ordering}
 use Rattle.std.proofs.lemmas.Cmp.{nat_list_cmp_total}
@@ -14,7 +14,7 @@ use Rattle.std_collections.specs.Layout.BTreeMap.{seek, one_further}
 use Rattle.std_collections.specs.Layout.Columns.{set_value_at}
 use Rattle.std_collections.proofs.Seek.{seek_err, seek-Ok, insert_entry-Ok, insert_entry_err, sorted_insert, found_at, missing_at}
 use Rattle.ld_model.specs.Tree as model
-use Rattle.ld_model.specs.Tree.{weight, trees_weight, members_weight, trees_of, members_of, array, object, AreAscending, AreBefore, byte_order, is_last_before, member_at}
+use Rattle.ld_model.specs.Tree.{weight, trees_weight, members_weight, same_tree, same_trees, same_members, trees_of, members_of, array, object, AreAscending, AreBefore, byte_order, is_last_before, member_at}
 use Rattle.ld_json.specs.declared.value.Tree.{Tree}
 use Rattle.ld_json.proofs.Searches.{seek-past}
 use Rattle.ld_json.specs.View.{view, trees_view, members_view, member_view}
@@ -57,6 +57,7 @@ pub record Found (k : List ℕ) (ms : List (List ℕ × Tree)) (i : ℕ) : Type 
   pub within : i < length ms
   pub value : (d : List ℕ × Tree) → member_at k (members_view ms) ≡ Some (view (get_or ms i d).1)
   pub writes : (m : List ℕ × Tree) (t : Tree) → m ≡ get_or ms i m → members_view (set ms i (m.0, t)) ≡ insert_entry byte_order (members_view ms) k (view t)
+  pub leaves : (m : List ℕ × Tree) (t : Tree) → m ≡ get_or ms i m → members_view (set ms i (m.0, t)) ≡ set_value (is_at (byte_order k)) (members_view ms) (view t)
   pub removes : members_view (remove ms i) ≡ remove_entry (is_at (byte_order k)) (members_view ms)
 
 value_at : (ms : List (List ℕ × Tree)) (i : ℕ) (d : List ℕ × Tree) → i < length ms → slice_get (values_of (members_view ms)) i ≡ Some (view (get_or ms i d).1)
@@ -73,6 +74,7 @@ found k ms i at =
       within = within;
       value = λ d. there.value ∙ value_at ms i d within;
       writes = λ m t is. members_view-set ms i m t within is ∙ insert_entry-Ok byte_order k (view t) (members_view ms) i at;
+      leaves = λ m t is. members_view-set ms i m t within is ∙ there.writes (view t);
       removes = members_view-remove ms i within ∙ there.removes;
     }
 
@@ -108,6 +110,10 @@ pub inserted_ascends : (k : List ℕ) (t : Tree) (ms : List (List ℕ × Tree)) 
 inserted_ascends k t ms i sorted at =
     subst AreAscending (sym (members_view-insert ms i (k, t))) (sorted_insert byte_order k (view t) nat_list_cmp_total (members_view ms) i sorted at)
 
+changes_nothing : (test : List ℕ → Bool) (t : model.Tree) (es : model.Pairs) → NonePasses test es → set_value test es t ≡ es
+changes_nothing test t [] none = refl
+changes_nothing test t (e ∷ es) none = rw none.0 (ap (λ l. e ∷ l) (changes_nothing test t es none.1))
+
 before_next : (k x y : List ℕ) → is_le (byte_order k x) ≡ true → byte_order x y ≡ Less → byte_order k y ≡ Less
 before_next k x y le less = by_cases (byte_order k x) refl le
   where
@@ -117,10 +123,10 @@ before_next k x y le less = by_cases (byte_order k x) refl le
     by_cases Greater is le = absurd (cc)
 
 -- Nothing stands at a key that a search didn't find.
-pub not_found : (k : List ℕ) (ms : model.Pairs) (i : ℕ) → AreAscending ms → seek (byte_order k) ms ≡ Err i → (member_at k ms ≡ None) × (remove_entry (is_at (byte_order k)) ms ≡ ms)
+pub not_found : (k : List ℕ) (ms : model.Pairs) (i : ℕ) → AreAscending ms → seek (byte_order k) ms ≡ Err i → (member_at k ms ≡ None) × (remove_entry (is_at (byte_order k)) ms ≡ ms) × ((t : model.Tree) → set_value (is_at (byte_order k)) ms t ≡ ms)
 not_found k ms i sorted at =
     let none : NonePasses (is_at (byte_order k)) ms = missing_at (byte_order k) {cmp = byte_order} (before_next k) ms i sorted at in
-    (lookup-none _ ms none, removes_nothing _ ms none)
+    (lookup-none _ ms none, removes_nothing _ ms none, λ t. changes_nothing _ t ms none)
   where
     removes_nothing : (test : List ℕ → Bool) (es : model.Pairs) → NonePasses test es → remove_entry test es ≡ es
     removes_nothing test [] none = refl
@@ -206,3 +212,32 @@ before_index ms i m sorted within at =
     let parts : members_view ms ≡ members_view (take i ms) ++ (m.0, view m.1) ∷ members_view (drop (i + 1) ms) =
     ap members_view (sym (take-append-drop i ms)) ∙ map-append member_view (take i ms) (drop i ms) ∙ ap (λ l. members_view (take i ms) ++ members_view l) rest in
     before_place (members_view (take i ms)) (m.0, view m.1) (members_view (drop (i + 1) ms)) (subst AreAscending parts sorted)
+
+pub item_weighs : (ts : List Tree) (i : ℕ) (t : Tree) → i < length ts → t ≡ get_or ts i t → weight (view t) ≤ trees_weight (trees_of (trees_view ts))
+item_weighs ts i t within at =
+    let more = sum_by_more_le (λ x. weight (view x)) ts i t within in
+    let whole = trees_weight-view ts in
+    subst (λ (x : Tree). weight (view x) ≤ trees_weight (trees_of (trees_view ts))) (sym at) (omega arith)
+
+pub member_weighs : (ms : List (List ℕ × Tree)) (i : ℕ) (m : List ℕ × Tree) → i < length ms → m ≡ get_or ms i m → weight (view m.1) ≤ members_weight (members_of (members_view ms))
+member_weighs ms i m within at =
+    let more = sum_by_more_le (λ x. weight (view x.1)) ms i m within in
+    let whole = members_weight-view ms in
+    subst (λ (x : List ℕ × Tree). weight (view x.1) ≤ members_weight (members_of (members_view ms))) (sym at) (omega arith)
+
+-- Lists of different lengths aren't equal.
+and-false : (b : Bool) → (b && false) ≡ false
+and-false true = refl
+and-false false = refl
+
+pub same_trees-lengths : (xs ys : List Tree) → (length xs ≡ length ys → ⊥) → false ≡ same_trees (trees_of (trees_view xs)) (trees_of (trees_view ys))
+same_trees-lengths [] [] differ = absurd (differ refl)
+same_trees-lengths [] (y ∷ ys) differ = refl
+same_trees-lengths (x ∷ xs) [] differ = refl
+same_trees-lengths (x ∷ xs) (y ∷ ys) differ = rw (← same_trees-lengths xs ys (λ e. differ (omega (arith, e)))) (sym (and-false _))
+
+pub same_members-lengths : (xs ys : List (List ℕ × Tree)) → (length xs ≡ length ys → ⊥) → false ≡ same_members (members_of (members_view xs)) (members_of (members_view ys))
+same_members-lengths [] [] differ = absurd (differ refl)
+same_members-lengths [] (y ∷ ys) differ = refl
+same_members-lengths (x ∷ xs) [] differ = refl
+same_members-lengths (x ∷ xs) (y ∷ ys) differ = rw (← same_members-lengths xs ys (λ e. differ (omega (arith, e)))) (sym (and-false _))

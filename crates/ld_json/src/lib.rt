@@ -5,6 +5,7 @@
 #![tactic(auto)]
 
 mod copying;
+mod equality;
 mod location;
 mod reading;
 mod string;

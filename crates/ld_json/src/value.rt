@@ -1,7 +1,7 @@
 // Trees, and the two lists that they are made of.
 ghost use Rattle.std.specs.Prelude.{◌≡◌, ◌+◌, ◌-◌, ◌^◌, ◌<◌, List, [], ◌∷◌, ◌++◌, length, min, IfOk, OnOk, OnErr, IsSome, IfSome, Some, slice_get};
 ghost use Rattle.std.specs.Option.{option_map};
-ghost use Rattle.std.specs.Map.{remove_entry};
+ghost use Rattle.std.specs.Map.{remove_entry, set_value};
 ghost use Rattle.std.specs.BTreeMap.{is_at, insert_entry};
 ghost use Rattle.std_collections.specs.Layout.BTreeMap.{seek};
 ghost use Rattle.ld_model.specs.Tree as model;
@@ -12,6 +12,7 @@ use crate::string::Text;
 use std::alloc::{AllocError, Global};
 use std::cmp::Ordering;
 use std::marker::Model;
+use std::mem;
 
 /// A JSON value (RFC 8259, section 3), with the numbers that this project reads.
 #[cycle(tree)]
@@ -224,6 +225,37 @@ impl Members {
                 self.pairs.insert(place, (key, tree))?;
                 Ok(())
             }
+        }
+    }
+
+    /// The same as `set`, at a key that is copied only where it is new.
+    pub fn put(&mut self, alloc: Global, key: &str, tree: Tree) -> Result<(), AllocError>
+        ensures ok { OnOk result (self.new ≡ insert_entry byte_order self.old key.now (view tree)) }
+        ensures err { OnErr result (self.new ≡ self.old) }
+    {
+        match place_of(self.pairs.as_slice(), key) {
+            Ok(place) => {
+                self.pairs[place].1 = tree;
+                Ok(())
+            }
+            Err(place) => {
+                self.pairs.insert(place, (Text::new(alloc, key)?, tree))?;
+                Ok(())
+            }
+        }
+    }
+
+    /// Takes the value of a key and leaves null in its place; None where there is no such key.
+    pub fn take(&mut self, key: &str) -> Option<Tree>
+        ensures value { option_map view result ≡ member_at key.now self.old }
+        ensures left { self.new ≡ set_value (is_at (byte_order key.now)) self.old model.null }
+    {
+        match place_of(self.pairs.as_slice(), key) {
+            Ok(place) => {
+                let pair = &mut self.pairs[place];
+                Some(mem::replace(&mut pair.1, Tree::Null))
+            }
+            Err(_) => None,
         }
     }
 
