@@ -110,7 +110,7 @@ pub inserted_ascends : (k : List ℕ) (t : Tree) (ms : List (List ℕ × Tree)) 
 inserted_ascends k t ms i sorted at =
     subst AreAscending (sym (members_view-insert ms i (k, t))) (sorted_insert byte_order k (view t) nat_list_cmp_total (members_view ms) i sorted at)
 
-changes_nothing : (test : List ℕ → Bool) (t : model.Tree) (es : model.Pairs) → NonePasses test es → set_value test es t ≡ es
+pub changes_nothing : (test : List ℕ → Bool) (t : model.Tree) (es : model.Pairs) → NonePasses test es → set_value test es t ≡ es
 changes_nothing test t [] none = refl
 changes_nothing test t (e ∷ es) none = rw none.0 (ap (λ l. e ∷ l) (changes_nothing test t es none.1))
 
@@ -197,7 +197,7 @@ member_is_lighter self members ms i m is same within at =
     rw (is, ← same) (subst (λ (x : List ℕ × Tree). weight (view x.1) < 1 + members_weight (members_of (members_view ms))) (sym at) (omega arith))
 
 -- Where members ascend, those ahead of a place come before its key.
-first_before : (xs : model.Pairs) (k : List ℕ) (m : List ℕ × model.Tree) (ns : model.Pairs) → AllByRecursion (λ y. byte_order k y ≡ Less) (keys_of (xs ++ m ∷ ns)) → byte_order k m.0 ≡ Less
+pub first_before : (xs : model.Pairs) (k : List ℕ) (m : List ℕ × model.Tree) (ns : model.Pairs) → AllByRecursion (λ y. byte_order k y ≡ Less) (keys_of (xs ++ m ∷ ns)) → byte_order k m.0 ≡ Less
 first_before [] k m ns all = all.0
 first_before (x ∷ xs) k m ns all = first_before xs k m ns all.1
 

@@ -249,6 +249,7 @@ impl Members {
     pub fn take(&mut self, key: &str) -> Option<Tree>
         ensures value { option_map view result ≡ member_at key.now self.old }
         ensures left { self.new ≡ set_value (is_at (byte_order key.now)) self.old model.null }
+        ensures ascending { AreAscending self.old }
     {
         match place_of(self.pairs.as_slice(), key) {
             Ok(place) => {

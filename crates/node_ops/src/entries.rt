@@ -1,0 +1,80 @@
+// The entries of one property of one node.
+ghost use Rattle.std.specs.Prelude.{◌≡◌, OnOk, IfOk};
+ghost use Rattle.std.specs.BTreeMap.{is_at};
+ghost use Rattle.std.specs.List.{list_any};
+ghost use Rattle.std.specs.Map.{set_value};
+ghost use Rattle.ld_model.specs.Tree.{AreAscending, byte_order, member_at, same_tree, null};
+ghost use Rattle.ld_model.specs.NodeMap.{added, entries_of, with_entries};
+ghost use Rattle.ld_json.specs.View.{view, trees_view};
+ghost use Rattle.node_ops.specs.Change.{change_of};
+
+use ld_json::{Members, Tree, Trees};
+use std::alloc::{AllocError, Global};
+
+/// What is done to the entries of a property.
+#[derive(Clone, Copy)]
+pub(crate) enum Change<'a> {
+    /// The property's array is made where it is missing.
+    Ensure,
+    /// The entry is added, unless an equal one is there.
+    Add(&'a Tree),
+}
+
+/// Changes the entries of one property of a node.
+pub(crate) fn change_entries(
+    alloc: Global,
+    node: &mut Members,
+    property: &str,
+    change: Change<'_>,
+) -> Result<(), AllocError>
+    ensures { OnOk result (node.new ≡ with_entries property.now (change_of change.entry) node.old) }
+{
+    let entries = take_entries(alloc, node, property);
+    let changed = changed_entries(alloc, entries, change)?;
+    node.put(alloc, property, Tree::Items(changed))?;
+    Ok(())
+}
+
+fn changed_entries(alloc: Global, entries: Trees, change: Change<'_>) -> Result<Trees, AllocError>
+    ensures { IfOk result (λ ts. ts ≡ change_of change.entry entries) }
+{
+    match change {
+        Change::Ensure => Ok(entries),
+        Change::Add(entry) => with_entry(alloc, entries, entry),
+    }
+}
+
+/// Takes the entries of a property out of a node; none where it has no such property.
+fn take_entries(alloc: Global, node: &mut Members, property: &str) -> Trees
+    ensures entries { result ≡ entries_of (member_at property.now node.old) }
+    ensures left { node.new ≡ set_value (is_at (byte_order property.now)) node.old null }
+    ensures ascending { AreAscending node.old }
+{
+    match node.take(property) {
+        Some(Tree::Items(entries)) => entries,
+        _ => Trees::new(alloc),
+    }
+}
+
+/// The entries with this one at their end, unless an equal one is there.
+fn with_entry(alloc: Global, mut entries: Trees, entry: &Tree) -> Result<Trees, AllocError>
+    ensures { IfOk result (λ ts. ts ≡ added (view entry.now) entries) }
+{
+    if has_entry(entries.as_slice(), entry) {
+        return Ok(entries);
+    }
+    entries.push(entry.copy(alloc)?)?;
+    Ok(entries)
+}
+
+// A scan: an index beside a long list of entries would replace this body.
+fn has_entry(entries: &[Tree], entry: &Tree) -> bool
+    ensures { result ≡ list_any (same_tree (view entry.now)) (trees_view entries.now) }
+{
+    for other in entries {
+        if entry.same(other) {
+            return true;
+        }
+    }
+    false
+}
