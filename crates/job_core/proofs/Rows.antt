@@ -24,4 +24,4 @@ module _ (rows : List (Vec Bool Global)) (at : ℕ) (row : Vec Bool Global) (is 
   pub written_lengths : (n piece : ℕ) → All (λ r. length r ≡ n) (rows_of rows) → All (λ r. length r ≡ n) (rows_of (set rows at (with_item row piece true)))
   written_lengths n piece each =
       subst (λ (rs : List (List Bool)). All (λ r. length r ≡ n) rs) (sym (map-set (λ r. r.items) rows at (with_item row piece true)))
-        (All-set (λ r. length r ≡ n) (rows_of rows) at (set row.items piece true) (length-set row.items piece true ∙ row_length n each) each)
+      (All-set (λ r. length r ≡ n) (rows_of rows) at (set row.items piece true) (length-set row.items piece true ∙ row_length n each) each)

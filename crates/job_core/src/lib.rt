@@ -7,6 +7,8 @@
 mod place;
 mod runs;
 mod state;
+#[cfg(test)]
+mod tests;
 
 pub use runs::every_closed_run;
 pub use state::JobState;

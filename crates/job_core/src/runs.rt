@@ -7,5 +7,4 @@ ghost use Rattle.job_core.specs.Runs.{EveryClosedRunSettles};
 /// in order.
 pub fn every_closed_run()
     ensures { EveryClosedRunSettles }
-{
-}
+{}

@@ -69,11 +69,9 @@ impl JobState {
     /// number out of range is refused, and then the step's guards are tested in order. Takes constant time, but for
     /// `Close`, which looks at every piece and shard.
     pub fn step(&mut self, step: JobStep) -> Result<(), NotAllowed>
-        ensures {
-            MatchOption (refusal self.old step)
-                (IsOk result × (self.new ≡ after self.old step))
-                (λ kept. (result ≡ Err record { step = step; kept = kept }) × (self.new ≡ self.old))
-        }
+        ensures { MatchOption (refusal self.old step)
+            (IsOk result × (self.new ≡ after self.old step))
+            (λ kept. (result ≡ Err record { step = step; kept = kept }) × (self.new ≡ self.old)) }
     {
         if let Err(kept) = self.allows(step) {
             return Err(NotAllowed { step, kept });

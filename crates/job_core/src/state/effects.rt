@@ -19,7 +19,11 @@ impl JobState {
             JobStep::Look { seat } => self.look(seat),
             JobStep::Skip { seat: _, piece } => self.skip(piece),
             JobStep::Turn { seat, shard } => self.turn(seat, shard),
-            JobStep::Enter { seat: _, shard, piece } => self.enter(shard, piece),
+            JobStep::Enter {
+                seat: _,
+                shard,
+                piece,
+            } => self.enter(shard, piece),
             JobStep::Close => self.close(),
         }
     }

@@ -26,11 +26,11 @@ invariant_of-self c =
     let same = c.self.invariant.each_shard_entered in record {
       each_piece_placed = c.self.invariant.each_piece_placed;
       each_shard_entered =
-        length-map (set rows c.args.shard (with_item row c.args.piece true)) (λ (r : Vec Bool Global). r.items)
-        ∙ length-set rows c.args.shard (with_item row c.args.piece true)
-        ∙ sym seen
-        ∙ same
-        ∙ sym (length-set c.self.inside.turns.items c.args.shard None);
+          length-map (set rows c.args.shard (with_item row c.args.piece true)) (λ (r : Vec Bool Global). r.items)
+          ∙ length-set rows c.args.shard (with_item row c.args.piece true)
+          ∙ sym seen
+          ∙ same
+          ∙ sym (length-set c.self.inside.turns.items c.args.shard None);
       each_row = written_lengths rows c.args.shard row c.index_mut-row.ensures.value (omega arith) (length c.self.inside.fails.items) c.args.piece c.self.invariant.each_row;
       few_pieces = c.self.invariant.few_pieces;
     }
@@ -44,5 +44,5 @@ returns c =
     let same = c.self.invariant.each_shard_entered in
     let inside = c.self.inside in
     ap (λ (entered : List (List Bool)). job_of inside.fails.items inside.places.items inside.least inside.seen.items (set inside.turns.items c.args.shard None) entered inside.closed)
-      (written_seen rows c.args.shard row c.index_mut-row.ensures.value (omega arith) c.args.piece)
+    (written_seen rows c.args.shard row c.index_mut-row.ensures.value (omega arith) c.args.piece)
     ∙ ap (λ (job : Job). after job (Enter 0 c.args.shard c.args.piece)) c.self.view_is
