@@ -1,7 +1,6 @@
 // The machine at worked examples, and through every interleaving of a small job.
-ghost use Rattle.std.specs.Prelude.{◌<◌, ◌≤◌, length};
-
 use crate::{JobState, JobStep, Kept, NotAllowed, Outcome};
+use std::alloc::Global;
 use std::process::Abort;
 use std::test::Fail;
 
@@ -54,6 +53,20 @@ fn turn(seat: u32, shard: u32) -> JobStep {
 
 fn enter(seat: u32, shard: u32, piece: u32) -> JobStep {
     JobStep::Enter { seat, shard, piece }
+}
+
+// What the step answers after these, which are allowed.
+fn last_answer<R: Abort>(
+    rt: &R,
+    alloc: Global,
+    before: &[JobStep],
+    step: JobStep,
+) -> Result<Result<(), NotAllowed>, Fail> {
+    let mut job = JobState::start(alloc, &[false, true, false], 2, 2)?;
+    for made in before {
+        assert_eq!(rt; job.step(*made), Ok(()), "{made:?}");
+    }
+    Ok(job.step(step))
 }
 
 // Of three pieces the second fails. Two seats, two shards. Each step that is refused breaks more than one guard where
@@ -152,11 +165,8 @@ fn the_first_guard_that_fails_is_named(rt: HostRuntime) -> Result<(), Fail> {
             Kept::Unfinished { piece: 0 },
         ),
     ] {
-        let mut job = JobState::start(rt.alloc(), &[false, true, false], 2, 2)?;
-        for made in before {
-            assert_eq!(rt; job.step(*made), Ok(()), "{name}: {made:?}");
-        }
-        assert_eq!(rt; job.step(step), Err(NotAllowed { step, kept }), "{name}");
+        let answer = last_answer(&rt, rt.alloc(), before, step)?;
+        assert_eq!(rt; answer, Err(NotAllowed { step, kept }), "{name}");
     }
     Ok(())
 }

@@ -92,12 +92,8 @@ fn made_with(made: u64, number: u32) -> u64
     requires { number < 64 }
 {
     let made = made | 1 << number;
-    match step_of(number) {
-        JobStep::Enter {
-            seat,
-            shard,
-            piece: _,
-        } => made & !(1 << ((32 + seat * 2 + shard) % 64)),
+    match number {
+        14..=25 => made & !(1 << (32 + (number - 14) / 3)),
         _ => made,
     }
 }
