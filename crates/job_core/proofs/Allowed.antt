@@ -2,9 +2,9 @@
 use Rattle.std.proofs.Common.{◌≡◌, ℕ, zero, suc, ◌+◌, ◌<◌, ◌≤◌, Bool, true, false, not, ◌&&◌, if◌then◌else◌, List, [], ◌∷◌, length, refl, subst, nat_lt, is_none, Option, Some, None, arith}
 use Rattle.std.proofs.lemmas.Bool.Decides.{Decides-ltb}
 use native.Mathlib.Decide.{ℕ_discrete}
-use Rattle.job_core.specs.Machine.{Job, place_of, fails_at, seen_by, turn_of, is_entered, is_waiting, holder, is_seat, is_finished, first_without, least_unfinished, Guard, waits, holds, does_fail, does_not_fail, has_seen_below, turn_is_free, has_turn, is_not_entered, all_finished, no_turn_is_out, is_in_range, guards, first_failing, refusal}
+use Rattle.job_core.specs.Machine.{Job, place_of, fails_at, seen_by, is_entered, is_waiting, holder, is_seat, is_finished, first_without, least_unfinished, Guard, waits, holds, does_fail, does_not_fail, has_seen_below, has_turn, is_not_entered, all_finished, no_turn_is_out, is_in_range, guards, first_failing, refusal}
 use Rattle.job_core.specs.declared.JobStep.{JobStep}
-use Rattle.job_core.specs.declared.JobStep.TheVariants.{Take, Fail, Look, Skip, Turn, Enter, Close}
+use Rattle.job_core.specs.declared.JobStep.TheVariants.{Take, Fail, Skip, Enter, Close}
 use Rattle.job_core.specs.declared.Kept.TheVariants.{Range, Closed}
 use Rattle.job_core.specs.declared.place.Place.{Place}
 use Rattle.job_core.specs.declared.place.Place.TheVariants.{Waiting, Held, Reported, Skipped}

@@ -1,8 +1,8 @@
 -- How often a run takes, reports, skips or enters a piece is read off its last state.
-use Rattle.std.proofs.Common.{◌≡◌, ℕ, zero, suc, ◌+◌, ◌<◌, ◌≤◌, ◌≢◌, ◌⊎◌, Bool, true, false, ◌&&◌, cond, List, [], ◌∷◌, length, set, get_or, count_by, refl, sym, ap, ◌∙◌, subst, ⊎_elim, zero-add, nat_eq, Option, None, arith}
+use Rattle.std.proofs.Common.{◌≡◌, ℕ, ◌+◌, ◌<◌, ◌≢◌, Bool, true, false, ◌&&◌, cond, List, [], ◌∷◌, length, set, get_or, count_by, refl, sym, ap, ◌∙◌, subst, ⊎_elim, zero-add, nat_eq, None, arith}
 use Rattle.std.proofs.lemmas.Bool.Decides.{eqb_tells}
 use Rattle.std.proofs.lemmas.List.Sums.{sum_by-cons}
-use Rattle.job_core.specs.Machine.{Job, place_of, is_entered, entered_in, refusal, after}
+use Rattle.job_core.specs.Machine.{Job, place_of, is_entered, refusal, after}
 use Rattle.job_core.specs.Runs.{IsRun, is_take, is_report, is_skip, is_entry}
 use Rattle.job_core.specs.declared.JobStep.{JobStep}
 use Rattle.job_core.specs.declared.JobStep.TheVariants.{Take, Fail, Look, Skip, Turn, Enter, Close}

@@ -1,10 +1,9 @@
 -- Every closed run settles each piece, and comes to what one seat comes to.
-use Rattle.std.proofs.Common.{◌≡◌, ℕ, zero, suc, ◌+◌, ◌<◌, ◌≤◌, ◌⊎◌, Bool, true, false, not, ◌&&◌, cond, if◌then◌else◌, List, [], ◌∷◌, length, get_or, replicate, count_by, refl, sym, ap, ◌∙◌, subst, inl, inr, ⊎_elim, nat_lt, arith}
+use Rattle.std.proofs.Common.{◌≡◌, ℕ, zero, suc, ◌+◌, ◌<◌, ◌≤◌, ◌⊎◌, Bool, true, false, not, if◌then◌else◌, List, [], ◌∷◌, length, get_or, replicate, count_by, refl, sym, ap, ◌∙◌, subst, inl, inr, ⊎_elim, nat_lt, arith}
 use Rattle.std.proofs.lemmas.Bool.Decides.{Decides-ltb}
-use Rattle.job_core.specs.Machine.{Job, start, place_of, fails_at, is_entered, in_every, is_finished_at, is_finished, outcome_of}
-use Rattle.job_core.specs.Runs.{IsRun, is_take, is_report, is_skip, is_entry, least_failing, in_order_from, in_order, IsEnteredEverywhere, IsReported, IsSkipped, IsSettled}
+use Rattle.job_core.specs.Machine.{Job, start, place_of, fails_at, is_entered, in_every, is_finished_at, is_finished}
+use Rattle.job_core.specs.Runs.{IsRun, is_take, is_report, is_skip, is_entry, least_failing, in_order_from, IsEnteredEverywhere, IsReported, IsSkipped, IsSettled}
 use Rattle.job_core.specs.declared.JobStep.{JobStep}
-use Rattle.job_core.specs.declared.Outcome.{Outcome}
 use Rattle.job_core.specs.declared.Outcome.TheVariants.{AllEntered, FirstFailure}
 use Rattle.job_core.specs.declared.place.Place.{Place}
 use Rattle.job_core.specs.declared.place.Place.TheVariants.{Waiting, Held, Reported, Skipped}

@@ -1,5 +1,5 @@
 -- Lists with one element written, and lists of one element many times.
-use Rattle.std.proofs.Common.{◌≡◌, ℕ, zero, suc, ◌+◌, ◌<◌, ◌≢◌, ◌⊎◌, Bool, true, false, ◌&&◌, List, [], ◌∷◌, length, replicate, set, get_or, refl, sym, ap, ◌∙◌, inl, inr, ⊎_elim, arith}
+use Rattle.std.proofs.Common.{◌≡◌, ℕ, zero, suc, ◌<◌, ◌≢◌, ◌⊎◌, Bool, true, false, ◌&&◌, List, [], ◌∷◌, length, replicate, set, get_or, refl, ap, inl, inr, ⊎_elim, arith}
 
 -- An element of a list that was written is the new one, at its place, or the old one.
 pub written : {A : Type 0} (l : List A) (at n : ℕ) (x d : A) → ((at ≡ n) × (get_or (set l at x) n d ≡ x)) ⊎ (get_or (set l at x) n d ≡ get_or l n d)

@@ -1,5 +1,5 @@
 -- What holds of every state that a run reaches.
-use Rattle.std.proofs.Common.{◌≡◌, ℕ, zero, suc, ◌+◌, ◌<◌, ◌≤◌, ◌≢◌, ◌⊎◌, Bool, true, false, List, [], length, replicate, set, get_or, min, sym, ap, ◌∙◌, subst, inl, inr, ⊎_elim, refl, Option, Some, None, arith}
+use Rattle.std.proofs.Common.{◌≡◌, ℕ, ◌<◌, ◌≤◌, ◌≢◌, ◌⊎◌, Bool, true, false, List, [], length, replicate, set, get_or, min, sym, ap, ◌∙◌, subst, inl, inr, ⊎_elim, refl, Some, None, arith}
 use Rattle.std.proofs.lemmas.List.{length-replicate, get_or-replicate}
 use Rattle.std.proofs.Math.ListN.{length-set}
 use native.Mathlib.Decide.{dec_le}
@@ -9,7 +9,7 @@ use Rattle.job_core.specs.declared.JobStep.TheVariants.{Take, Fail, Look, Skip, 
 use Rattle.job_core.specs.declared.place.Place.{Place}
 use Rattle.job_core.specs.declared.place.Place.TheVariants.{Waiting, Held, Reported, Skipped}
 use Rattle.job_core.proofs.Lists.{written, written_here, copies_read}
-use Rattle.job_core.proofs.Allowed.{open_before, take_allowed, fail_allowed, skip_allowed, enter_allowed, close_allowed}
+use Rattle.job_core.proofs.Allowed.{open_before, take_allowed, fail_allowed, skip_allowed, close_allowed}
 
 pub record IsSound (fails : List Bool) (shards : ℕ) (job : Job) : Type 0 where
   pub same_fails : job.fails ≡ fails

@@ -1,9 +1,9 @@
-use Rattle.std.proofs.Common.{◌≡◌, ◌<◌, List, Bool, true, Option, None, length, set, Vec, Global, vec_len, arith, sym, ap, ◌∙◌}
+use Rattle.std.proofs.Common.{List, Bool, true, None, length, set, Vec, Global, arith, sym, ap, ◌∙◌}
 use Rattle.std.proofs.Math.ListN.{length-set, length-map}
 use Rattle.std.specs.Vec.{with_item}
 use Rattle.job_core.specs.Machine.{Job, job_of, after}
 use Rattle.job_core.specs.declared.JobStep.TheVariants.{Enter}
-use Rattle.job_core.proofs.Rows.{rows_of, row_length, written_seen, written_lengths}
+use Rattle.job_core.proofs.Rows.{row_length, written_seen, written_lengths}
 use Rattle.job_core.proofs.state.JobState.enter.Goals as goal
 
 pub index_mut-requires-2 : goal.index_mut-requires-2
@@ -30,7 +30,7 @@ invariant_of-self c =
           ∙ length-set rows c.args.shard (with_item row c.args.piece true)
           ∙ sym seen
           ∙ same
-          ∙ sym (length-set c.self.inside.turns.items c.args.shard None);
+          ∙ sym (length-set c.self.inside.turns.items c.args.shard _);
       each_row = written_lengths rows c.args.shard row c.index_mut-row.ensures.value (omega arith) (length c.self.inside.fails.items) c.args.piece c.self.invariant.each_row;
       few_pieces = c.self.invariant.few_pieces;
     }

@@ -1,5 +1,5 @@
-use Rattle.std.proofs.Common.{◌≡◌, ℕ, suc, ◌+◌, ◌-◌, Bool, true, false, length, Option, Some, None, refl, arith, sym, ap, ◌∙◌}
-use Rattle.job_core.specs.Machine.{Job, is_finished, first_without, least_unfinished}
+use Rattle.std.proofs.Common.{◌≡◌, ℕ, suc, ◌+◌, ◌-◌, Bool, true, false, length, Some, refl, arith, sym, ap, ◌∙◌}
+use Rattle.job_core.specs.Machine.{Job, is_finished, first_without}
 use Rattle.job_core.proofs.state.JobState.least_unfinished.Goals as goal
 
 first_without-fails : (test : ℕ → Bool) (from count : ℕ) → test from ≡ false → first_without test from (suc count) ≡ Some from

@@ -1,4 +1,4 @@
-use Rattle.std.proofs.Common.{◌≡◌, false, length, map, replicate}
+use Rattle.std.proofs.Common.{◌≡◌, false, map, replicate}
 use Rattle.job_core.proofs.state.JobState.start.Given as goal
 
 abbrev pub invariant-loop : goal.invariant-loop
