@@ -1,5 +1,6 @@
 -- The count of faults that each part of the outside keeps.
-use Rattle.std.specs.Prelude.{ℕ, ◌+◌, ◌-◌, ◌^◌, ◌≤◌, ◌≡◌, min, Result, MatchResult}
+use Rattle.std.specs.Prelude.{ℕ, ◌+◌, ◌-◌, ◌^◌, ◌≤◌, ◌≡◌, ◌==◌, min, List, Bool, Result, MatchResult}
+use Rattle.std.specs.List.{list_any}
 
 -- the number after a count's, or the same at the end of a u64
 abbrev pub next_count : ℕ → ℕ
@@ -12,3 +13,7 @@ Rose before now = (before ≤ now) × (next_count before ≤ now)
 -- the count stays at `Ok`, and rose at `Err`
 abbrev pub CountsFaults : {T E : Type 0} → ℕ → ℕ → Result T E → Type 0
 CountsFaults before now result = MatchResult result (λ _. now ≡ before) (λ _. Rose before now)
+
+-- whether a call of that number is among those that fail
+abbrev pub is_failing : List ℕ → ℕ → Bool
+is_failing failing call = list_any (λ n. n == call) failing

@@ -3,3 +3,8 @@ pub mod FolderFaults
 pub mod ReadFaults
 pub mod Sinks
 pub mod Files
+pub mod SourceState
+pub mod SinkState
+pub mod FolderState
+pub mod Stock
+pub mod Named

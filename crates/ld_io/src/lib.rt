@@ -9,8 +9,17 @@
 //! [`read_to_end`], [`write_all`] and [`write_and_finish`] are the loops over them.
 #![tactic(auto)]
 
+mod calls;
+mod list_sink;
+mod list_source;
+mod map_folder;
+mod streams;
 mod traits;
 mod whole;
 
+pub use list_sink::ListSink;
+pub use list_source::ListSource;
+pub use map_folder::MapFolder;
+pub use streams::{StdSink, StdSource};
 pub use traits::{Failed, Folder, FolderStop, Sink, Source};
 pub use whole::{LIMIT, ReadStop, read_to_end, write_all, write_and_finish};
