@@ -1,7 +1,8 @@
-//! The real streams. What they give and take is the outside's own affair, so they tell nothing of
-//! it: these two types are trusted to pass on the true bytes.
+//! The real streams. They tell what std tells of the reader or the writer inside, which is nothing
+//! at standard input, standard output and standard error: std is trusted to pass on their true bytes.
 ghost use Rattle.std.specs.Prelude.{◌≡◌, ℕ, None, Option, List, Bool};
 ghost use Rattle.std.specs.Io.{ReadsAtMost, WritesAtMost};
+ghost use Rattle.std.specs.Io.KnownBytes.{ReadConsumes, WriteAppends, Keeps};
 ghost use Rattle.ld_io.specs.Sinks.{TakesSome};
 
 use super::traits::{Failed, Sink, Source};
@@ -15,7 +16,8 @@ fn is_interrupted(error: &io::Error) -> bool {
 
 /// One read, made again where a signal interrupted it.
 fn read_retrying<R: Read>(reader: &mut R, buf: &mut [u8]) -> Result<usize, Failed>
-    ensures { ReadsAtMost result buf.new }
+    ensures bound { ReadsAtMost result buf.new }
+    ensures bytes { ReadConsumes (R.remaining reader.old) (R.remaining reader.new) result buf.new }
 {
     for _ in 0..u64::MAX {
         match reader.read(buf) {
@@ -31,6 +33,7 @@ fn read_retrying<R: Read>(reader: &mut R, buf: &mut [u8]) -> Result<usize, Faile
 fn write_retrying<W: Write>(writer: &mut W, bytes: &[u8]) -> Result<usize, Failed>
     ensures bound { WritesAtMost result bytes.now }
     ensures some { TakesSome result bytes.now }
+    ensures bytes { WriteAppends (W.contents writer.old) (W.contents writer.new) result bytes.now }
 {
     for _ in 0..u64::MAX {
         match writer.write(bytes) {
@@ -44,7 +47,9 @@ fn write_retrying<W: Write>(writer: &mut W, bytes: &[u8]) -> Result<usize, Faile
 }
 
 /// One flush, made again where a signal interrupted it.
-fn flush_retrying<W: Write>(writer: &mut W) -> Result<(), Failed> {
+fn flush_retrying<W: Write>(writer: &mut W) -> Result<(), Failed>
+    ensures bytes { Keeps (W.contents writer.old) (W.contents writer.new) }
+{
     for _ in 0..u64::MAX {
         match writer.flush() {
             Ok(()) => return Ok(()),
@@ -75,7 +80,7 @@ impl<R: Read> StdSource<R> {
 }
 
 impl<R: Read> Source for StdSource<R> {
-    ghost left = { λ _. None };
+    ghost left = { λ s. R.remaining s.inner };
 
     ghost faults = { λ s. s.faults };
 
@@ -110,7 +115,7 @@ impl<W: Write> StdSink<W> {
 }
 
 impl<W: Write> Sink for StdSink<W> {
-    ghost held = { λ _. None };
+    ghost held = { λ s. W.contents s.inner };
 
     ghost finished = { λ _. None };
 
