@@ -29,3 +29,7 @@ abbrev pub Gathers : {E : Type 0} → Option (List ℕ) → Option (List ℕ) �
 Gathers old new before after result =
     MatchResult result (λ ended. MatchBool ended ((after ≡ before) × Keeps old new × IsAtEnd new)
     ((more : List ℕ) × (0 < length more) × (after ≡ before ++ more) × Consumes old new more)) (λ _. ⊤)
+
+-- some front of the bytes left was taken
+abbrev pub TakesFront : Option (List ℕ) → Option (List ℕ) → Type 0
+TakesFront old new = (bytes : List ℕ) × Consumes old new bytes

@@ -73,7 +73,8 @@ pub struct StdSource<R> {
 impl<R: Read> StdSource<R> {
     /// The source that reads from `inner`. Its count of faults is 0.
     pub fn new(inner: R) -> StdSource<R>
-        ensures { result ≡ record { inner = inner; faults = 0 } }
+        ensures left { ⟦<StdSource<R> as Source>⟧.left result ≡ R.remaining inner }
+        ensures faults { ⟦<StdSource<R> as Source>⟧.faults result ≡ 0 }
     {
         StdSource { inner, faults: 0 }
     }
@@ -108,7 +109,9 @@ pub struct StdSink<W> {
 impl<W: Write> StdSink<W> {
     /// The sink that writes to `inner`. Its count of faults is 0.
     pub fn new(inner: W) -> StdSink<W>
-        ensures { result ≡ record { inner = inner; faults = 0 } }
+        ensures held { ⟦<StdSink<W> as Sink>⟧.held result ≡ W.contents inner }
+        ensures finished { ⟦<StdSink<W> as Sink>⟧.finished result ≡ None }
+        ensures faults { ⟦<StdSink<W> as Sink>⟧.faults result ≡ 0 }
     {
         StdSink { inner, faults: 0 }
     }

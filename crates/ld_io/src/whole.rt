@@ -3,7 +3,7 @@ ghost use Rattle.std.specs.Prelude.{◌≡◌, ℕ, ◌+◌, ◌-◌, ◌<◌, �
 ghost use Rattle.std.specs.Io.KnownBytes.{Consumes, Appends, IsAtEnd};
 ghost use Rattle.ld_io.specs.Faults.{CountsFaults};
 ghost use Rattle.ld_io.specs.ReadFaults.{CountsReadFaults};
-ghost use Rattle.ld_io.specs.Sinks.{AppendsFront, IsFinished, IsUnfinished, Gathers};
+ghost use Rattle.ld_io.specs.Sinks.{AppendsFront, IsFinished, IsUnfinished, Gathers, TakesFront};
 
 use super::traits::{Failed, Sink, Source};
 use std::alloc::{AllocError, Global};
@@ -61,6 +61,7 @@ fn read_more<S: Source>(
     requires { 0 < length buffer.old }
     ensures bytes { Gathers (S.left source.old) (S.left source.new) bytes.old.items bytes.new.items result }
     ensures faults { CountsReadFaults (S.faults source.old) (S.faults source.new) result }
+    ensures taken { OnErr result (TakesFront (S.left source.old) (S.left source.new)) }
     ensures not_large { result ≡ Err ReadStop.TooLarge → ⊥ }
 {
     match source.read(buffer) {
@@ -89,6 +90,7 @@ pub fn read_to_end<S: Source>(alloc: Global, source: &mut S) -> Result<Vec<u8>, 
     ensures within { IfOk result (λ v. vec_len v ≤ LIMIT) }
     ensures too_large { result ≡ Err ReadStop.TooLarge
         → IfSome (S.left source.old) (λ xs. LIMIT < length xs) }
+    ensures taken { OnErr result (TakesFront (S.left source.old) (S.left source.new)) }
     ensures faults { CountsReadFaults (S.faults source.old) (S.faults source.new) result }
 {
     let mut bytes = Vec::new(alloc);
