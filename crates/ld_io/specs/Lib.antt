@@ -2,6 +2,7 @@ pub mod Faults
 pub mod FolderFaults
 pub mod ReadFaults
 pub mod Sinks
+pub mod Sources
 pub mod Files
 pub mod SourceState
 pub mod SinkState

@@ -3,7 +3,8 @@ ghost use Rattle.std.specs.Prelude.{◌≡◌, ℕ, ◌+◌, ◌-◌, ◌<◌, �
 ghost use Rattle.std.specs.Io.KnownBytes.{Consumes, Appends, IsAtEnd};
 ghost use Rattle.ld_io.specs.Faults.{CountsFaults};
 ghost use Rattle.ld_io.specs.ReadFaults.{CountsReadFaults};
-ghost use Rattle.ld_io.specs.Sinks.{AppendsFront, IsFinished, IsUnfinished, Gathers, TakesFront};
+ghost use Rattle.ld_io.specs.Sinks.{AppendsFront, IsFinished, IsUnfinished};
+ghost use Rattle.ld_io.specs.Sources.{Gathers, TakesFront};
 
 use super::traits::{Failed, Sink, Source};
 use std::alloc::{AllocError, Global};
@@ -32,16 +33,6 @@ impl From<AllocError> for ReadStop {
 
     fn from(_error: AllocError) -> ReadStop {
         ReadStop::OutOfMemory
-    }
-}
-
-impl From<Failed> for ReadStop {
-    ghost use Rattle.ld_io.specs.declared.whole.ReadStop.TheVariants.{Failed};
-
-    ghost from_gives = { λ _ stop. stop ≡ Failed };
-
-    fn from(_error: Failed) -> ReadStop {
-        ReadStop::Failed
     }
 }
 
