@@ -1,0 +1,11 @@
+pub mod Faults
+pub mod FolderFaults
+pub mod ReadFaults
+pub mod Sinks
+pub mod Sources
+pub mod Files
+pub mod SourceState
+pub mod SinkState
+pub mod FolderState
+pub mod Stock
+pub mod Named
