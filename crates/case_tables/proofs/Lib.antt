@@ -1,0 +1,5 @@
+pub mod EveryCode
+pub mod EveryDatatype
+pub mod EveryKeyword
+pub mod LookUp
+pub mod Numbered
