@@ -1,6 +1,6 @@
 -- A look-up from the first row on finds the one row there is.
-use Rattle.std.proofs.Common.{◌≡◌, ℕ, Bool, true, false, ◌&&◌, List, [], ◌∷◌, Option, Some, None, Contains, Decides, IsTrue, map, not, ◌↔◌, refl, sym, ap, ◌∙◌, cond, length, ◌<◌, eqb}
-use Rattle.std.specs.List.{IsDistinct, AllByRecursion, list_all, slice_index_or}
+use Rattle.std.proofs.Common.{◌≡◌, ℕ, Bool, true, false, ◌&&◌, List, [], ◌∷◌, Some, Contains, IsTrue, map, not, ◌↔◌, refl, sym, ap, ◌∙◌, length, ◌<◌, eqb}
+use Rattle.std.specs.List.{IsDistinct, AllByRecursion, list_all}
 use Rattle.std.specs.Str.{bytes_eq}
 use Rattle.std.specs.Cmp.{nat_eq_equiv}
 use Rattle.std.specs.Cmp.Lexicographic.{nat_list_eq_equiv}
@@ -32,9 +32,10 @@ IsDistinct-from_all_differ eq (k ∷ ks) h =
 
 -- the number beside a name
 pub number_found : (q : List ℕ) (pairs : List (List ℕ × ℕ)) → IsTrue (names_differ pairs) → (n : ℕ) → (lookup (bytes_eq q) pairs ≡ Some n) ↔ Contains pairs (q, n)
-number_found q pairs differ n =
-    (λ h. Contains-from_lookup (λ x y. (bytes_eq-Decides x y).0) q n pairs h,
-     λ h. lookup-from_Contains nat_list_eq_equiv q n pairs (IsDistinct-from_all_differ bytes_eq _ differ) h)
+number_found q pairs differ n = (
+  λ h. Contains-from_lookup (λ x y. (bytes_eq-Decides x y).0) q n pairs h,
+  λ h. lookup-from_Contains nat_list_eq_equiv q n pairs (IsDistinct-from_all_differ bytes_eq _ differ) h,
+)
 
 -- a pair stands among the turned pairs just where it stands turned among the pairs
 turned_there : (pairs : List (List ℕ × ℕ)) (name : List ℕ) (n : ℕ) → Contains pairs (name, n) → Contains (turned pairs) (n, name)
@@ -53,6 +54,7 @@ turned_keys (p ∷ ps) = ap (λ ks. p.1 ∷ ks) (turned_keys ps)
 -- the name beside a number
 pub name_found : (q : ℕ) (pairs : List (List ℕ × ℕ)) → IsTrue (numbers_differ pairs) → (name : List ℕ) → (lookup (eqb q) (turned pairs) ≡ Some name) ↔ Contains pairs (name, q)
 name_found q pairs differ name =
-    let distinct : IsDistinct eqb (keys_of (turned pairs)) = IsDistinct-from_all_differ eqb _ (ap (all_differ eqb) (turned_keys pairs) ∙ differ) in
-    (λ h. turned_back pairs name q (Contains-from_lookup (λ x y. (Decides-eqb x y).0) q name (turned pairs) h),
-     λ h. lookup-from_Contains nat_eq_equiv q name (turned pairs) distinct (turned_there pairs name q h))
+    let distinct : IsDistinct eqb (keys_of (turned pairs)) = IsDistinct-from_all_differ eqb _ (ap (all_differ eqb) (turned_keys pairs) ∙ differ) in (
+      λ h. turned_back pairs name q (Contains-from_lookup (λ x y. (Decides-eqb x y).0) q name (turned pairs) h),
+      λ h. lookup-from_Contains nat_eq_equiv q name (turned pairs) distinct (turned_there pairs name q h),
+    )

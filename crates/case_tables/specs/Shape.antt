@@ -1,4 +1,4 @@
--- The words of a container mapping (JSON-LD 1.1 API, section 4.2.2, step 21).
+-- The words of a container mapping (JSON-LD 1.1 API, section 4.2.2, step 19).
 use Rattle.std.specs.Prelude.{◌≡◌, ℕ, ◌+◌, ◌==◌, Bool, true, false, ◌&&◌, ◌||◌, not, if◌then◌else◌, List, Option, Some, None, count_by}
 use Rattle.std.specs.Str.{bytes_eq}
 use Rattle.case_tables.specs.declared.keyword.Keyword.{Keyword}

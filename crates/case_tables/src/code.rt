@@ -6,7 +6,7 @@ ghost use Rattle.case_tables.specs.Code.{code_name};
 
 use crate::{Row, Table};
 
-/// An error code (JSON-LD 1.1 API, section 9.6; `context overflow` and the rest of the list).
+/// An error code (JSON-LD 1.1 API, section 9.6).
 #[derive(Clone, Copy, Debug, PartialEq, Eq)]
 pub enum Code {
     /// `colliding keywords`
@@ -180,7 +180,9 @@ fn may_be_name(text: &str) -> bool
     ensures { (k : Code) → text.now ≡ code_name k → IsTrue result }
 {
     let bytes = text.as_bytes();
-    bytes.len() >= 16 && bytes.len() <= 30 && matches!(bytes.first(), Some(b'c' | b'i' | b'k' | b'l' | b'p'))
+    bytes.len() >= 16
+        && bytes.len() <= 30
+        && matches!(bytes.first(), Some(b'c' | b'i' | b'k' | b'l' | b'p'))
 }
 
 fn code_table() -> Table<44>
@@ -193,4 +195,24 @@ fn code_at(number: u16) -> Option<Code>
     ensures { result ≡ slice_get CODES number }
 {
     CODES.get(usize::from(number)).copied()
+}
+
+#[cfg(test)]
+mod tests {
+    use super::*;
+
+    // Each code is found again by its own name.
+    fn found_again(code: Code) -> Option<Code>
+        ensures { result ≡ Some code }
+    {
+        code_of(code.name())
+    }
+
+    #[test]
+    fn a_code_is_found_by_its_whole_name(rt: HostRuntime) {
+        let code = Code::CollidingKeywords;
+        assert_eq!(rt; found_again(code), Some(code));
+        assert_eq!(rt; code_of("colliding keywords"), Some(code));
+        assert_eq!(rt; code_of("colliding"), None);
+    }
 }

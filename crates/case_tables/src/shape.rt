@@ -44,13 +44,25 @@ impl Shape {
         ensures { result ≡ with_word self word }
     {
         match word {
-            Keyword::Graph if !self.graph => Some(Shape { graph: true, ..self }),
+            Keyword::Graph if !self.graph => Some(Shape {
+                graph: true,
+                ..self
+            }),
             Keyword::Id if !self.id => Some(Shape { id: true, ..self }),
-            Keyword::Index if !self.index => Some(Shape { index: true, ..self }),
-            Keyword::Language if !self.language => Some(Shape { language: true, ..self }),
+            Keyword::Index if !self.index => Some(Shape {
+                index: true,
+                ..self
+            }),
+            Keyword::Language if !self.language => Some(Shape {
+                language: true,
+                ..self
+            }),
             Keyword::List if !self.list => Some(Shape { list: true, ..self }),
             Keyword::Set if !self.set => Some(Shape { set: true, ..self }),
-            Keyword::TypeWord if !self.types => Some(Shape { types: true, ..self }),
+            Keyword::TypeWord if !self.types => Some(Shape {
+                types: true,
+                ..self
+            }),
             _ => None,
         }
     }
@@ -76,7 +88,7 @@ impl Shape {
 }
 
 /// The shape of a container mapping that has these words, in any order (JSON-LD 1.1 API, section
-/// 4.2.2, step 21).
+/// 4.2.2, step 19).
 ///
 /// It is `None` where a word stands twice, and where the words are not allowed together. Allowed
 /// are one word alone of `@graph`, `@id`, `@index`, `@language`, `@list`, `@set` and `@type`;
@@ -89,5 +101,38 @@ pub fn container_shape(words: &[Keyword]) -> Option<Shape>
     for word in words {
         shape = shape.with(*word)?;
     }
-    if shape.is_allowed() { Some(shape) } else { None }
+    if shape.is_allowed() {
+        Some(shape)
+    } else {
+        None
+    }
+}
+
+#[cfg(test)]
+mod tests {
+    use super::*;
+    use crate::Keyword::{Graph, Id, List, Set};
+
+    #[test]
+    fn the_words_of_a_container_make_its_shape(rt: HostRuntime) {
+        let graph_set = Shape {
+            graph: true,
+            id: true,
+            set: true,
+            ..Shape::none()
+        };
+        let cases = [
+            (
+                "three words in any order",
+                [Set, Graph, Id].as_slice(),
+                Some(graph_set),
+            ),
+            ("a list is in no set", [List, Set].as_slice(), None),
+            ("no word at all", [].as_slice(), None),
+            ("a word twice", [Set, Set].as_slice(), None),
+        ];
+        for (name, words, shape) in cases {
+            assert_eq!(rt; container_shape(words), shape, "{name}");
+        }
+    }
 }

@@ -1,4 +1,3 @@
-use Rattle.std.proofs.Common.{◌≡◌, rules, subst, sym, Contains, ◌↔◌, Some, ℕ, List}
 use Rattle.case_tables.proofs.LookUp.{number_found}
 use Rattle.case_tables.specs.Rows.{pairs_of}
 use Rattle.case_tables.proofs.table.Table.find.Goals as goal
