@@ -1,3 +1,4 @@
 pub mod Dots
 pub mod Parts
 pub mod Resolve
+pub mod Walk
