@@ -1,13 +1,14 @@
 -- A path that grows in one buffer is the path of the segments that are kept.
-use Rattle.std.proofs.Common.{◌≡◌, ℕ, ◌+◌, ◌<◌, ◌≤◌, Bool, true, false, ◌||◌, List, [], ◌∷◌, ◌++◌, Bor, Option, Some, None, MatchOption, cond, drop, drop-cons, get_or, take, suc, unwrap_or, ◌≢◌, fold, not, reverse, length, refl, sym, ap, ◌∙◌, ⊎_elim, subst, append_assoc, arith}
-use Rattle.std.specs.List.{list_any, slice_split, onto_first, join_with_byte, before_first, after_first, position_or_len}
+use Rattle.std.proofs.Common.{◌≡◌, ℕ, ◌+◌, ◌-◌, ◌<◌, ◌≤◌, Bool, true, false, ◌||◌, List, [], ◌∷◌, ◌++◌, Bor, Option, Some, None, MatchOption, cond, drop, drop-cons, get_or, take, suc, unwrap_or, ◌≢◌, fold, not, reverse, length, refl, sym, ap, ◌∙◌, ⊎_elim, subst, append_assoc, arith}
+use Rattle.std.specs.List.{slice_range, list_any, slice_split, onto_first, join_with_byte, before_first, after_first, position_or_len}
 use Rattle.std.proofs.lemmas.Bool.{cases_lt, cond_both, ne_eqb, le-ltb, lt-ltb, or_parts, or_from}
-use Rattle.std.proofs.lemmas.List.{get_or-drop, length-drop, reverse-append, take_all, take-append-drop}
+use Rattle.std.proofs.lemmas.List.{get_or-drop, length-drop, reverse-append, take_all, take_more, take-append-drop}
 use Rattle.std.proofs.lemmas.List.Splits.{slice_split_first, slice_split_none}
 use Rattle.std.proofs.lemmas.List.Sums.{fails_before_first, prefix_len-le-length}
 use Rattle.std.specs.Option.{is_some, option_copied, option_map}
 use Rattle.iri_ref.specs.Parts.{part_after, slash}
 use Rattle.iri_ref.specs.Dots.{segments_of, is_dot, is_dot_dot, is_dots, closed, without_last, without_leading_dots, placed, kept_of, remove_dots}
+use Rattle.iri_ref.specs.Resolve.{directory_of}
 use Rattle.iri_ref.specs.Walk.{up_to_last_slash, path_with}
 
 -- a segment holds no slash
@@ -163,19 +164,23 @@ cut_cases bs = ⊎_elim
       subst (IsCut bs) (sym none) (whole, slice_split_none slash bs (λ i d lt. fails_before_first slash bs i d (omega arith))))
     (cases_lt (position_or_len slash bs) (length bs))
 
-plain_from : (ys : List ℕ) → ((i : ℕ) → i < length ys → get_or ys i 0 ≢ 47) → Plain ys
+pub plain_from : (ys : List ℕ) → ((i : ℕ) → i < length ys → get_or ys i 0 ≢ 47) → Plain ys
 plain_from [] none = refl
 plain_from (y ∷ ys) none = or_from (slash y) (list_any slash ys) (ne_eqb y 47 (none 0 (omega arith))) (plain_from ys (λ i lt. none (suc i) (omega arith)))
+
+parted : (bs : List ℕ) (k : ℕ) → k < length bs → get_or bs k 0 ≡ 47 → bs ≡ take k bs ++ 47 ∷ drop (suc k) bs
+parted bs k within here = sym (take-append-drop k bs) ∙ ap (λ xs. take k bs ++ xs) (drop-cons bs k 0 within ∙ ap (λ b. b ∷ drop (suc k) bs) here)
+
+plain_behind_last : (bs : List ℕ) (k : ℕ) → k < length bs → ((i : ℕ) → k < i → i < length bs → get_or bs i 0 ≢ 47) → Plain (drop (suc k) bs)
+plain_behind_last bs k within last = plain_from (drop (suc k) bs) (λ i lt.
+    let far : suc k + i < length bs = omega (arith, length-drop (suc k) bs, lt) in
+    rw get_or-drop (last (suc k + i) (omega arith) far))
 
 -- what stands before the place that a search from the back answers
 pub last_place : (bs : List ℕ) (r : Option ℕ) → MatchOption r ((i : ℕ) → i < length bs → get_or bs i 0 ≢ 47) (λ k. (k < length bs) × (get_or bs k 0 ≡ 47) × ((i : ℕ) → k < i → i < length bs → get_or bs i 0 ≢ 47)) → take (unwrap_or r 0) bs ≡ up_to_last_slash bs
 last_place bs None none = sym (no_slash bs (plain_from bs none))
 last_place bs (Some k) found =
-    let behind : Plain (drop (suc k) bs) = plain_from (drop (suc k) bs) (λ i lt.
-      let far : suc k + i < length bs = omega (arith, length-drop (suc k) bs, lt) in
-      rw get_or-drop (found.2 (suc k + i) (omega arith) far)) in
-    let parts : bs ≡ take k bs ++ 47 ∷ drop (suc k) bs = sym (take-append-drop k bs) ∙ ap (λ xs. take k bs ++ xs) (drop-cons bs k 0 found.0 ∙ ap (λ b. b ∷ drop (suc k) bs) found.1) in
-    sym (ap up_to_last_slash parts ∙ last_slash (take k bs) (drop (suc k) bs) behind)
+    sym (ap up_to_last_slash (parted bs k found.0 found.1) ∙ last_slash (take k bs) (drop (suc k) bs) (plain_behind_last bs k found.0 found.2))
 
 -- the segments of a text are the first and those behind the first slash
 pub rest_behind : (bs : List ℕ) (r : Option (Bor (List ℕ))) → option_copied r ≡ part_after slash bs → is_some r ≡ true → closed (segments_of bs) ≡ before_first slash bs ∷ Rest (option_copied r)
@@ -228,3 +233,23 @@ remove_dots_walk path head r led other is =
 pub path_stepped : (kept new segment text : List ℕ) (r : Option (List ℕ)) → new ≡ path_with kept segment → segment ≡ before_first slash text → closed (segments_of text) ≡ before_first slash text ∷ Rest r → fold path_with new (Rest r) ≡ fold path_with kept (closed (segments_of text))
 path_stepped kept new segment text r is front parts =
     ap (λ path. fold path_with path (Rest r)) (is ∙ ap (path_with kept) front) ∙ ap (fold path_with kept) (sym parts)
+
+-- the directory of a path ends with its last slash
+no_directory : (ys : List ℕ) → Plain ys → directory_of ys ≡ []
+no_directory [] plain = refl
+no_directory (y ∷ ys) plain = ap (λ b. cond b (y ∷ directory_of ys) []) plain
+
+directory_behind : (xs ys : List ℕ) → Plain ys → directory_of (xs ++ 47 ∷ ys) ≡ xs ++ 47 ∷ []
+directory_behind [] ys plain = ap (λ zs. 47 ∷ zs) (no_directory ys plain)
+directory_behind (x ∷ xs) ys plain =
+    ap (λ b. cond b (x ∷ directory_of (xs ++ 47 ∷ ys)) []) (any_slash (x ∷ xs) ys) ∙ ap (λ zs. x ∷ zs) (directory_behind xs ys plain)
+
+pub last_directory : (bs : List ℕ) (r : Option ℕ) → MatchOption r ((i : ℕ) → i < length bs → get_or bs i 0 ≢ 47) (λ k. (k < length bs) × (get_or bs k 0 ≡ 47) × ((i : ℕ) → k < i → i < length bs → get_or bs i 0 ≢ 47)) → MatchOption r (directory_of bs ≡ []) (λ k. directory_of bs ≡ take (k + 1) bs)
+last_directory bs None none = no_directory bs (plain_from bs none)
+last_directory bs (Some k) found =
+    ap directory_of (parted bs k found.0 found.1) ∙ directory_behind (take k bs) (drop (suc k) bs) (plain_behind_last bs k found.0 found.2)
+    ∙ sym (take_more bs k 0 found.0 ∙ ap (λ b. take k bs ++ b ∷ []) found.1)
+
+-- a range from the start
+pub front_range : (bs : List ℕ) (n : ℕ) → slice_range bs 0 n ≡ take n bs
+front_range bs n = let same : n - 0 ≡ n = omega arith in ap (λ m. take m bs) same

@@ -3,5 +3,7 @@
 
 mod dots;
 mod reference;
+mod resolution;
 
 pub use reference::{Parts, has_scheme, is_well_formed, split};
+pub use resolution::resolve;

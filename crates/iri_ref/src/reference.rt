@@ -22,7 +22,8 @@ pub struct Parts<'a> {
 
 /// The parts of a reference, as the regular expression of RFC 3986, appendix B, finds them.
 pub fn split(text: &str) -> Parts<'_>
-    ensures { bytes_of result ≡ parts_of text.now }
+    ensures parts { bytes_of result ≡ parts_of text.now }
+    ensures nothing_lost { text_of (bytes_of result) ≡ text.now }
 {
     let (text, fragment) = cut(text, '#');
     let (text, query) = cut(text, '?');
