@@ -1,14 +1,15 @@
 -- Laws of the definitions: the parts put together give the text, and an IRI is its own target.
-use Rattle.std.proofs.Common.{◌≡◌, ℕ, ◌+◌, ◌<◌, ◌≤◌, Bool, true, false, ◌&&◌, ◌||◌, not, List, [], ◌∷◌, ◌++◌, Option, Some, None, cond, codes, drop, take, length, get_or, nat_eq, suc, zero, refl, sym, ap, ◌∙◌, subst, ⊎_elim, append_assoc, arith}
+use Rattle.std.proofs.Common.{◌≡◌, ℕ, ◌+◌, ◌<◌, ◌≤◌, Bool, true, false, ◌&&◌, ◌||◌, not, List, [], ◌∷◌, ◌++◌, Option, Some, None, cond, codes, drop, take, length, get_or, nat_eq, nat_le, suc, zero, refl, sym, ap, ◌∙◌, subst, ⊎_elim, append_assoc, arith}
 use Rattle.std.specs.List.{after_first, before_first, list_all, list_any, position_or_len, starts_with}
 use Rattle.std.specs.Option.{is_some, option_and_then, option_map, option_map_or}
 use Rattle.std.specs.Str.{bytes_eq}
 use Rattle.std.proofs.lemmas.Bool.{cases_lt, le-ltb, lt-ltb, ne_eqb, or_from}
 use Rattle.std.proofs.lemmas.Bool.Decides.{Decides-eqb}
 use Rattle.std.proofs.lemmas.List.{append-nil, get_or-take, length-take-le, take_all, take-append-drop}
-use Rattle.std.proofs.lemmas.List.Sums.{fails_before_first, passes_at_first, position_or_len_is, split_at_first}
+use Rattle.std.proofs.lemmas.List.Sums.{fails_before_first, passes_at_first, position_or_len_is, prefix_len-le-length, split_at_first}
 use Rattle.std.proofs.lemmas.Slice.Eq.{bytes_eq-Decides}
-use Rattle.iri_ref.specs.Parts.{authority_in, behind_scheme, colon, has_scheme, is, is_letter, is_run, is_scheme, is_scheme_byte, number_sign, part_after, part_before, parts_of, path_in, question_mark, run_only, scheme_in, slash}
+use Rattle.iri_ref.specs.Parts.{IriParts, authority_in, behind_scheme, colon, has_scheme, is, is_letter, is_run, is_scheme, is_scheme_byte, number_sign, part_after, part_before, parts_of, path_in, question_mark, run_only, scheme_in, slash}
+use Rattle.iri_ref.specs.Dots.{remove_dots}
 use Rattle.iri_ref.specs.Resolve.{marked, resolved, scheme_text, target_of, text_of}
 use Rattle.iri_ref.proofs.Walk.{Plain, plain_from}
 
@@ -73,3 +74,117 @@ text_of-parts_of text =
       ∙ ap (λ xs. scheme_text (scheme_in front) ++ xs) (authority_joined rest) ∙ scheme_joined front)
     ∙ ap (λ xs. xs ++ marked (codes "#") (part_after number_sign text)) (marked_joined 63 above)
     ∙ marked_joined 35 text
+
+-- both parts of a test
+both : (a b : Bool) → (a && b) ≡ true → (a ≡ true) × (b ≡ true)
+both true b h = (refl, h)
+both false b h = absurd cc
+
+all_at : (test : ℕ → Bool) (bs : List ℕ) → list_all test bs ≡ true → (i : ℕ) → i < length bs → test (get_or bs i 0) ≡ true
+all_at test [] all i lt = absurd (omega arith)
+all_at test (b ∷ bs) all zero lt = (both (test b) (list_all test bs) all).0
+all_at test (b ∷ bs) all (suc i) lt = all_at test bs (both (test b) (list_all test bs) all).1 i (omega arith)
+
+letter_stands : (a b : Bool) → a ≡ true → (a || b) ≡ true
+letter_stands true b h = refl
+letter_stands false b h = absurd cc
+
+letter_is_scheme_byte : (b : ℕ) → is_letter b ≡ true → is_scheme_byte b ≡ true
+letter_is_scheme_byte b h =
+    let digit = nat_le 48 b && nat_le b 57 in
+    letter_stands (is_letter b || digit || is 43 b || is 45 b) (is 46 b)
+      (letter_stands (is_letter b || digit || is 43 b) (is 45 b)
+        (letter_stands (is_letter b || digit) (is 43 b) (letter_stands (is_letter b) digit h)))
+
+-- a scheme is some bytes that stand in schemes
+scheme_bytes : (bs : List ℕ) → is_scheme bs ≡ true → (0 < length bs) × ((i : ℕ) → i < length bs → is_scheme_byte (get_or bs i 0) ≡ true)
+scheme_bytes [] h = absurd cc
+scheme_bytes (b ∷ bs) h = (omega arith, at)
+  where
+    at : (i : ℕ) → i < length (b ∷ bs) → is_scheme_byte (get_or (b ∷ bs) i 0) ≡ true
+    at zero lt = letter_is_scheme_byte b (both (is_letter b) (list_all is_scheme_byte bs) h).0
+    at (suc i) lt = all_at is_scheme_byte bs (both (is_letter b) (list_all is_scheme_byte bs) h).1 i (omega arith)
+
+-- a scheme of n bytes and a colon begin the text
+record Leads (bs : List ℕ) (n : ℕ) : Type 0 where
+  within : n < length bs
+  colon_there : get_or bs n 0 ≡ 58
+  bytes : (i : ℕ) → i < n → is_scheme_byte (get_or bs i 0) ≡ true
+
+-- a byte of schemes is none that this test passes
+no_mark : (c : ℕ) → is_scheme_byte c ≡ false → (b : ℕ) → is_scheme_byte b ≡ true → is c b ≡ false
+no_mark c other b stands = ne_eqb b c (λ same. let clash : true ≡ false = sym stands ∙ ap is_scheme_byte same ∙ other in cc)
+
+colon_place : (bs : List ℕ) (n : ℕ) → Leads bs n → position_or_len colon bs ≡ n
+colon_place bs n leads = position_or_len_is colon bs n 0 (omega (arith, leads.within)) (λ i lt. no_mark 58 refl (get_or bs i 0) (leads.bytes i lt)) (λ _. rw leads.colon_there refl)
+
+-- what stands before a mark still begins so
+leads_before : (c : ℕ) → is_scheme_byte c ≡ false → is c 58 ≡ false → (bs : List ℕ) (n : ℕ) → Leads bs n → Leads (before_first (is c) bs) n
+leads_before c other no_colon bs n leads =
+    let place = position_or_len (is c) bs in
+    let far : n < place = ⊎_elim (λ lt. lt) (λ le. absurd (early le)) (cases_lt n place) in
+    let inside : (i : ℕ) → i < place → get_or (before_first (is c) bs) i 0 ≡ get_or bs i 0 = λ i lt. get_or-take place bs i 0 lt in
+    record {
+      within = omega (arith, far, length-take-le place bs (prefix_len-le-length (λ b. not (is c b)) bs));
+      colon_there = inside n far ∙ leads.colon_there;
+      bytes = λ i lt. ap is_scheme_byte (inside i (omega (arith, far, lt))) ∙ leads.bytes i lt;
+    }
+  where
+    early : position_or_len (is c) bs ≤ n → ⊥
+    early le =
+      let within : position_or_len (is c) bs < length bs = omega (arith, leads.within, le) in
+      let passes : is c (get_or bs (position_or_len (is c) bs) 0) ≡ true = passes_at_first (is c) bs 0 within in
+      ⊎_elim
+        (λ lt. let fails = no_mark c other (get_or bs (position_or_len (is c) bs) 0) (leads.bytes (position_or_len (is c) bs) lt) in cc)
+        (λ ge. let here : position_or_len (is c) bs ≡ n = omega arith in
+          let fails : is c (get_or bs (position_or_len (is c) bs) 0) ≡ false = ap (λ i. is c (get_or bs i 0)) here ∙ ap (is c) leads.colon_there ∙ no_colon in cc)
+        (cases_lt (position_or_len (is c) bs) n)
+
+-- a text in the form of an IRI begins so
+leads_of : (text : List ℕ) → has_scheme text ≡ true → (n : ℕ) × (0 < n) × Leads text n
+leads_of text h = ⊎_elim
+    (λ lt.
+      let place = position_or_len colon text in
+      let form : is_scheme (before_first colon text) ≡ true = sym (ap (λ o. option_map_or is_scheme o false) (front_found colon text lt)) ∙ h in
+      let long : length (before_first colon text) ≡ place = length-take-le place text (omega arith) in
+      let stands = scheme_bytes (before_first colon text) form in
+      (place, omega (arith, stands.0, long), record {
+        within = lt;
+        colon_there = (Decides-eqb (get_or text place 0) 58).0 (passes_at_first colon text 0 lt);
+        bytes = λ i early. ap is_scheme_byte (sym (get_or-take place text i 0 early)) ∙ stands.1 i (omega (arith, early, long));
+      }))
+    (λ le. absurd (let clash : false ≡ true = sym (ap (λ o. option_map_or is_scheme o false) (front_absent colon text le)) ∙ h in cc))
+    (cases_lt (position_or_len colon text) (length text))
+
+some_byte : (s : List ℕ) → 0 < length s → bytes_eq s [] ≡ false
+some_byte [] h = absurd (omega arith)
+some_byte (b ∷ bs) h = refl
+
+run_stands : (a b : Bool) → a ≡ false → b ≡ false → (not a && not b) ≡ true
+run_stands a b no_a no_b = rw (no_a, no_b) refl
+
+-- so the parts of such a front have a scheme
+scheme_of_front : (front : List ℕ) (n : ℕ) → 0 < n → Leads front n → is_some (scheme_in front) ≡ true
+scheme_of_front front n some leads =
+    let place : position_or_len colon front ≡ n = colon_place front n leads in
+    let within : position_or_len colon front < length front = omega (arith, place, leads.within) in
+    let s = before_first colon front in
+    let long : length s ≡ position_or_len colon front = length-take-le (position_or_len colon front) front (omega (arith, within)) in
+    let plain : Plain s = plain_from s (λ i lt same.
+      let early : i < position_or_len colon front = omega (arith, lt, long) in
+      let clash : true ≡ false = sym (leads.bytes i (omega (arith, early, place))) ∙ ap is_scheme_byte (sym (get_or-take (position_or_len colon front) front i 0 early) ∙ same) in cc) in
+    let run : is_run s ≡ true = run_stands (bytes_eq s []) (list_any slash s) (some_byte s (omega (arith, some, place, long))) plain in
+    ap (λ o. is_some (option_and_then run_only o)) (front_found colon front within) ∙ ap (λ b. is_some (cond b (Some s) None)) run
+
+scheme_of_parts : (text : List ℕ) → has_scheme text ≡ true → is_some (parts_of text).scheme ≡ true
+scheme_of_parts text h =
+    let leads = leads_of text h in
+    scheme_of_front (before_first question_mark (before_first number_sign text)) leads.0 leads.1
+      (leads_before 63 refl refl (before_first number_sign text) leads.0 (leads_before 35 refl refl text leads.0 leads.2))
+
+-- an IRI is its own target, whatever the base is
+pub resolved_alone : (base other reference : List ℕ) → has_scheme reference ≡ true → resolved base reference ≡ resolved other reference
+resolved_alone base other reference h =
+    let r = parts_of reference in
+    let alone : (b : IriParts) → target_of b r ≡ record r { path = remove_dots r.path } = λ b. rw (scheme_of_parts reference h) refl in
+    ap text_of (alone (parts_of base) ∙ sym (alone (parts_of other)))
