@@ -1,0 +1,10 @@
+use Rattle.std.proofs.Common.{◌∙◌, ap, rules}
+use Rattle.iri_ref.specs.Resolve.{text_of}
+use Rattle.iri_ref.proofs.Laws.{text_of-parts_of}
+use Rattle.iri_ref.proofs.reference.split.Goals as goal
+
+pub returns-clause-parts : goal.returns-clause-parts
+returns-clause-parts c = search rules
+
+pub returns-clause-nothing_lost : goal.returns-clause-nothing_lost
+returns-clause-nothing_lost c = ap text_of (returns-clause-parts c) ∙ text_of-parts_of c.args.text.now

@@ -1,0 +1,4 @@
+pub mod Dots
+pub mod Parts
+pub mod Resolve
+pub mod Walk
