@@ -71,7 +71,7 @@ text_of-parts_of text =
     let rest = behind_scheme front in
     let tail = λ (xs : List ℕ). (xs ++ marked (codes "?") (part_after question_mark above)) ++ marked (codes "#") (part_after number_sign text) in
     ap tail (append_assoc (scheme_text (scheme_in front)) (marked (codes "//") (authority_in rest)) (path_in rest)
-      ∙ ap (λ xs. scheme_text (scheme_in front) ++ xs) (authority_joined rest) ∙ scheme_joined front)
+    ∙ ap (λ xs. scheme_text (scheme_in front) ++ xs) (authority_joined rest) ∙ scheme_joined front)
     ∙ ap (λ xs. xs ++ marked (codes "#") (part_after number_sign text)) (marked_joined 63 above)
     ∙ marked_joined 35 text
 
@@ -93,8 +93,8 @@ letter_is_scheme_byte : (b : ℕ) → is_letter b ≡ true → is_scheme_byte b 
 letter_is_scheme_byte b h =
     let digit = nat_le 48 b && nat_le b 57 in
     letter_stands (is_letter b || digit || is 43 b || is 45 b) (is 46 b)
-      (letter_stands (is_letter b || digit || is 43 b) (is 45 b)
-        (letter_stands (is_letter b || digit) (is 43 b) (letter_stands (is_letter b) digit h)))
+    (letter_stands (is_letter b || digit || is 43 b) (is 45 b)
+    (letter_stands (is_letter b || digit) (is 43 b) (letter_stands (is_letter b) digit h)))
 
 -- a scheme is some bytes that stand in schemes
 scheme_bytes : (bs : List ℕ) → is_scheme bs ≡ true → (0 < length bs) × ((i : ℕ) → i < length bs → is_scheme_byte (get_or bs i 0) ≡ true)
@@ -132,27 +132,30 @@ leads_before c other no_colon bs n leads =
   where
     early : position_or_len (is c) bs ≤ n → ⊥
     early le =
-      let within : position_or_len (is c) bs < length bs = omega (arith, leads.within, le) in
-      let passes : is c (get_or bs (position_or_len (is c) bs) 0) ≡ true = passes_at_first (is c) bs 0 within in
-      ⊎_elim
+        let within : position_or_len (is c) bs < length bs = omega (arith, leads.within, le) in
+        let passes : is c (get_or bs (position_or_len (is c) bs) 0) ≡ true = passes_at_first (is c) bs 0 within in
+        ⊎_elim
         (λ lt. let fails = no_mark c other (get_or bs (position_or_len (is c) bs) 0) (leads.bytes (position_or_len (is c) bs) lt) in cc)
         (λ ge. let here : position_or_len (is c) bs ≡ n = omega arith in
-          let fails : is c (get_or bs (position_or_len (is c) bs) 0) ≡ false = ap (λ i. is c (get_or bs i 0)) here ∙ ap (is c) leads.colon_there ∙ no_colon in cc)
+        let fails : is c (get_or bs (position_or_len (is c) bs) 0) ≡ false = ap (λ i. is c (get_or bs i 0)) here ∙ ap (is c) leads.colon_there ∙ no_colon in cc)
         (cases_lt (position_or_len (is c) bs) n)
 
 -- a text in the form of an IRI begins so
 leads_of : (text : List ℕ) → has_scheme text ≡ true → (n : ℕ) × (0 < n) × Leads text n
 leads_of text h = ⊎_elim
     (λ lt.
-      let place = position_or_len colon text in
-      let form : is_scheme (before_first colon text) ≡ true = sym (ap (λ o. option_map_or is_scheme o false) (front_found colon text lt)) ∙ h in
-      let long : length (before_first colon text) ≡ place = length-take-le place text (omega arith) in
-      let stands = scheme_bytes (before_first colon text) form in
-      (place, omega (arith, stands.0, long), record {
+    let place = position_or_len colon text in
+    let form : is_scheme (before_first colon text) ≡ true = sym (ap (λ o. option_map_or is_scheme o false) (front_found colon text lt)) ∙ h in
+    let long : length (before_first colon text) ≡ place = length-take-le place text (omega arith) in
+    let stands = scheme_bytes (before_first colon text) form in (
+      place,
+      omega (arith, stands.0, long),
+      record {
         within = lt;
         colon_there = (Decides-eqb (get_or text place 0) 58).0 (passes_at_first colon text 0 lt);
         bytes = λ i early. ap is_scheme_byte (sym (get_or-take place text i 0 early)) ∙ stands.1 i (omega (arith, early, long));
-      }))
+      },
+    ))
     (λ le. absurd (let clash : false ≡ true = sym (ap (λ o. option_map_or is_scheme o false) (front_absent colon text le)) ∙ h in cc))
     (cases_lt (position_or_len colon text) (length text))
 
@@ -171,8 +174,8 @@ scheme_of_front front n some leads =
     let s = before_first colon front in
     let long : length s ≡ position_or_len colon front = length-take-le (position_or_len colon front) front (omega (arith, within)) in
     let plain : Plain s = plain_from s (λ i lt same.
-      let early : i < position_or_len colon front = omega (arith, lt, long) in
-      let clash : true ≡ false = sym (leads.bytes i (omega (arith, early, place))) ∙ ap is_scheme_byte (sym (get_or-take (position_or_len colon front) front i 0 early) ∙ same) in cc) in
+    let early : i < position_or_len colon front = omega (arith, lt, long) in
+    let clash : true ≡ false = sym (leads.bytes i (omega (arith, early, place))) ∙ ap is_scheme_byte (sym (get_or-take (position_or_len colon front) front i 0 early) ∙ same) in cc) in
     let run : is_run s ≡ true = run_stands (bytes_eq s []) (list_any slash s) (some_byte s (omega (arith, some, place, long))) plain in
     ap (λ o. is_some (option_and_then run_only o)) (front_found colon front within) ∙ ap (λ b. is_some (cond b (Some s) None)) run
 
@@ -180,7 +183,7 @@ scheme_of_parts : (text : List ℕ) → has_scheme text ≡ true → is_some (pa
 scheme_of_parts text h =
     let leads = leads_of text h in
     scheme_of_front (before_first question_mark (before_first number_sign text)) leads.0 leads.1
-      (leads_before 63 refl refl (before_first number_sign text) leads.0 (leads_before 35 refl refl text leads.0 leads.2))
+    (leads_before 63 refl refl (before_first number_sign text) leads.0 (leads_before 35 refl refl text leads.0 leads.2))
 
 -- an IRI is its own target, whatever the base is
 pub resolved_alone : (base other reference : List ℕ) → has_scheme reference ≡ true → resolved base reference ≡ resolved other reference

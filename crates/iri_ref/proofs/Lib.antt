@@ -1,3 +1,4 @@
 pub mod Laws
 pub mod Slashes
 pub mod Walk
+pub mod Forms

@@ -83,7 +83,7 @@ path_placed kept s false false stack = path_pushed kept s stack
 stack_placed : (kept : List (List ℕ)) (s : List ℕ) → Stack kept → Plain s → Stack (placed kept s)
 stack_placed kept s stack plain =
     by_test Stack (is_dot s) kept (cond (is_dot_dot s) (without_last kept) (s ∷ kept)) stack
-      (by_test Stack (is_dot_dot s) (without_last kept) (s ∷ kept) (stack_without_last kept stack) (stack_pushed kept s stack plain))
+    (by_test Stack (is_dot_dot s) (without_last kept) (s ∷ kept) (stack_without_last kept stack) (stack_pushed kept s stack plain))
 
 -- segment by segment
 pub path_folded : (kept ss : List (List ℕ)) → Stack kept → AllPlain ss → path_of (fold placed kept ss) ≡ fold path_with (path_of kept) ss
@@ -145,23 +145,24 @@ Rest (Some text) = closed (segments_of text)
 
 abbrev pub IsCut : List ℕ → Option (List ℕ) → Type 0
 IsCut bs r = MatchOption r
-  ((before_first slash bs ≡ bs) × (segments_of bs ≡ bs ∷ []))
-  (λ rest. (length rest < length bs) × (segments_of bs ≡ before_first slash bs ∷ segments_of rest) × (closed (segments_of bs) ≡ before_first slash bs ∷ closed (segments_of rest)))
+    ((before_first slash bs ≡ bs) × (segments_of bs ≡ bs ∷ []))
+    (λ rest. (length rest < length bs) × (segments_of bs ≡ before_first slash bs ∷ segments_of rest) × (closed (segments_of bs) ≡ before_first slash bs ∷ closed (segments_of rest)))
 
 pub cut_cases : (bs : List ℕ) → IsCut bs (part_after slash bs)
 cut_cases bs = ⊎_elim
     (λ lt.
-      let found : part_after slash bs ≡ Some (after_first slash bs) = ap (λ b. option_map (λ i. drop (i + 1) bs) (cond b (Some (position_or_len slash bs)) None)) (lt-ltb (position_or_len slash bs) (length bs) lt) in
-      let first : segments_of bs ≡ before_first slash bs ∷ segments_of (after_first slash bs) = slice_split_first slash bs 0 lt in
-      subst (IsCut bs) (sym found) (
-        omega (arith, length-drop (position_or_len slash bs + 1) bs),
-        first,
-        ap closed first ∙ closed_more (before_first slash bs) (after_first slash bs)))
+    let found : part_after slash bs ≡ Some (after_first slash bs) = ap (λ b. option_map (λ i. drop (i + 1) bs) (cond b (Some (position_or_len slash bs)) None)) (lt-ltb (position_or_len slash bs) (length bs) lt) in
+    let first : segments_of bs ≡ before_first slash bs ∷ segments_of (after_first slash bs) = slice_split_first slash bs 0 lt in
+    subst (IsCut bs) (sym found) (
+      omega (arith, length-drop (position_or_len slash bs + 1) bs),
+      first,
+      ap closed first ∙ closed_more (before_first slash bs) (after_first slash bs),
+    ))
     (λ le.
-      let none : part_after slash bs ≡ None = ap (λ b. option_map (λ i. drop (i + 1) bs) (cond b (Some (position_or_len slash bs)) None)) (le-ltb (position_or_len slash bs) (length bs) le) in
-      let whole : before_first slash bs ≡ bs = take_all (position_or_len slash bs) bs le in
-      let within : position_or_len slash bs ≤ length bs = prefix_len-le-length (λ b. not (slash b)) bs in
-      subst (IsCut bs) (sym none) (whole, slice_split_none slash bs (λ i d lt. fails_before_first slash bs i d (omega arith))))
+    let none : part_after slash bs ≡ None = ap (λ b. option_map (λ i. drop (i + 1) bs) (cond b (Some (position_or_len slash bs)) None)) (le-ltb (position_or_len slash bs) (length bs) le) in
+    let whole : before_first slash bs ≡ bs = take_all (position_or_len slash bs) bs le in
+    let within : position_or_len slash bs ≤ length bs = prefix_len-le-length (λ b. not (slash b)) bs in
+    subst (IsCut bs) (sym none) (whole, slice_split_none slash bs (λ i d lt. fails_before_first slash bs i d (omega arith))))
     (cases_lt (position_or_len slash bs) (length bs))
 
 pub plain_from : (ys : List ℕ) → ((i : ℕ) → i < length ys → get_or ys i 0 ≢ 47) → Plain ys

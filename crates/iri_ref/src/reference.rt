@@ -3,6 +3,7 @@ ghost use Rattle.std.specs.Prelude.{◌≡◌, ◌<◌, drop};
 ghost use Rattle.std.specs.Option.{option_copied};
 ghost use Rattle.std.specs.List.{before_first, list_all, list_any, position_or_len};
 ghost use Rattle.iri_ref.specs.Parts.{bytes_of, parts_of, part_after, is, is_run, is_letter, is_scheme_byte, is_scheme, is_iri_byte, scheme_in, behind_scheme, authority_in, path_in, has_scheme as has_scheme_text, is_well_formed as is_well_formed_text};
+ghost use Rattle.ld_model.specs.Iri as model;
 ghost use Rattle.iri_ref.specs.Resolve.{text_of};
 
 /// The parts of a reference (RFC 3986, section 3). A part that is absent is no empty part.
@@ -41,6 +42,13 @@ pub fn split(text: &str) -> Parts<'_>
 /// Whether a text has the form of an IRI: a scheme stands before its first `:` (RFC 3986, section
 /// 3.1).
 pub fn has_scheme(text: &str) -> bool
+    ensures parts { result ≡ has_scheme_text text.now }
+    ensures bytes { result ≡ model.has_scheme text.now }
+{
+    begins_with_scheme(text)
+}
+
+fn begins_with_scheme(text: &str) -> bool
     ensures { result ≡ has_scheme_text text.now }
 {
     match text.split_once(':') {
@@ -150,5 +158,8 @@ fn is_scheme_byte(byte: u8) -> bool
 fn is_iri_byte(byte: u8) -> bool
     ensures { result ≡ is_iri_byte byte }
 {
-    !matches!(byte, 0..=b' ' | b'<' | b'>' | b'"' | b'{' | b'}' | b'|' | b'^' | b'`' | b'\\')
+    !matches!(
+        byte,
+        0..=b' ' | b'<' | b'>' | b'"' | b'{' | b'}' | b'|' | b'^' | b'`' | b'\\'
+    )
 }

@@ -28,15 +28,35 @@ fn target(alloc: Global, base: &Parts, reference: &Parts) -> Result<String, Allo
 {
     if reference.scheme.is_some() {
         let path = remove_dots(alloc, reference.path)?;
-        return compose(alloc, &Parts { path: path.as_str(), ..*reference });
+        return compose(
+            alloc,
+            &Parts {
+                path: path.as_str(),
+                ..*reference
+            },
+        );
     }
     if reference.authority.is_some() {
         let path = remove_dots(alloc, reference.path)?;
-        return compose(alloc, &Parts { scheme: base.scheme, path: path.as_str(), ..*reference });
+        return compose(
+            alloc,
+            &Parts {
+                scheme: base.scheme,
+                path: path.as_str(),
+                ..*reference
+            },
+        );
     }
     if reference.path.is_empty() {
         let query = reference.query.or(base.query);
-        return compose(alloc, &Parts { query, fragment: reference.fragment, ..*base });
+        return compose(
+            alloc,
+            &Parts {
+                query,
+                fragment: reference.fragment,
+                ..*base
+            },
+        );
     }
     let path = if reference.path.starts_with('/') {
         remove_dots(alloc, reference.path)?

@@ -1,7 +1,6 @@
 -- Generation over a plain document issues no label, and is the walk.
 use Rattle.std.proofs.Common.{◌≡◌, ℕ, List, [], ◌∷◌, Bool, true, false, ◌&&◌, ◌||◌, Option, Some, None, Ordering, Less, Equal, Greater, refl, sym, ap, ◌∙◌, subst}
 use Rattle.std.specs.Prelude.{◌==◌, if◌then◌else◌}
-use Rattle.std.specs.Char.{is_ascii_alphabetic}
 use Rattle.std.specs.Option.{is_some}
 use Rattle.std.specs.Ordering.{is_eq, ordering_reverse}
 use Rattle.std.proofs.lemmas.Cmp.{nat_list_cmp_total}
@@ -11,7 +10,7 @@ use Rattle.std.proofs.lemmas.Map.Text.{is_eq-slice_cmp}
 use borrow.Author.Tests.{eqb-true}
 use Rattle.ld_model.specs.Tree.{Tree, null, truth, whole, one_one, text, array, object, Trees, no_trees, tree, Members, no_members, member, Pairs, tree_list, member_list, member_at, byte_order}
 use Rattle.ld_model.specs.Label.{Labels, is_blank}
-use Rattle.ld_model.specs.Iri.{has_scheme}
+use Rattle.ld_model.specs.Iri.{has_scheme, is_letter}
 use Rattle.ld_model.specs.Keys.{id_key, value_key}
 use Rattle.ld_model.specs.Plain.{is_iri_text, is_plain_entry, are_plain_entries, is_plain_array, is_plain_member, are_plain_members, is_plain_item, are_plain_items}
 use Rattle.ld_model.specs.NodeMap.{State, named, reference, target, entry_into, entry_by, entries_into, entries_of, changed, added, with_node, property_into, named_property_into, properties_into, name_of, named_item_into, item_into, items_into}
@@ -49,9 +48,9 @@ not_blank (x ∷ y ∷ s) h = by_first (x == 95) refl
     by_first : (b : Bool) → (x == 95) ≡ b → (b && (y == 58)) ≡ false
     by_first false is = refl
     by_first true is =
-        let first : is_ascii_alphabetic x ≡ true = (both (is_ascii_alphabetic x) _ h).0 in
+        let first : is_letter x ≡ true = (both (is_letter x) _ h).0 in
         let same : x ≡ 95 = eqb-true x 95 is in
-        absurd (let letter : is_ascii_alphabetic 95 ≡ true = subst (λ n. is_ascii_alphabetic n ≡ true) same first in cc)
+        absurd (let letter : is_letter 95 ≡ true = subst (λ n. is_letter n ≡ true) same first in cc)
 
 named-iri : (s : List ℕ) (l : Labels) → has_scheme s ≡ true → named s l ≡ (s, l)
 named-iri s l h = rw (not_blank s h)

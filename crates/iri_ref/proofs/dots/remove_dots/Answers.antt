@@ -12,8 +12,9 @@ pub loop-rest-preserved : goal.loop-rest-preserved
 loop-rest-preserved c =
     let rest = option_copied c.cut-in-Some.result.1 in
     let parts : closed (segments_of c.in-Some.text.now) ≡ before_first slash c.in-Some.text.now ∷ Rest rest = elim c.else-is_none.branch [
-        else-is_none-via-then-is_none+else-is_dots w ↦ plain_behind c.in-Some.text.now rest c.cut-in-Some.ensures.rest (ap is_dots (sym c.cut-in-Some.ensures.front) ∙ sym w.is_dots.ensures ∙ w.if-is_dots.false)
-      | else-is_none-via-else-is_none w ↦ rest_behind c.in-Some.text.now c.cut-in-Some.result.1 c.cut-in-Some.ensures.rest (c.is_none.ensures ∙ ap not w.if-is_none.false) ] in
+      | else-is_none-via-then-is_none+else-is_dots w ↦ plain_behind c.in-Some.text.now rest c.cut-in-Some.ensures.rest (ap is_dots (sym c.cut-in-Some.ensures.front) ∙ sym w.is_dots.ensures ∙ w.if-is_dots.false)
+      | else-is_none-via-else-is_none w ↦ rest_behind c.in-Some.text.now c.cut-in-Some.result.1 c.cut-in-Some.ensures.rest (c.is_none.ensures ∙ ap not w.if-is_none.false)
+    ] in
     path_stepped (string_bytes c.loop-rest.kept) (string_bytes c.place.new.kept) c.cut-in-Some.result.0.now c.in-Some.text.now rest c.in_ok-place.ensures c.cut-in-Some.ensures.front parts
     ∙ ap (λ r. fold path_with (string_bytes c.loop-rest.kept) (Rest (option_copied r))) (sym c.in-Some.is)
     ∙ c.loop-rest.invariant

@@ -10,7 +10,8 @@ returns-then-not-is_dots-clause-same c =
     ∙ no_dots_lead c.loop-after.rest.now (ap is_dots (sym c.cut.ensures.front) ∙ sym c.is_dots.ensures ∙ c.if-not-is_dots.true)
 
 pub loop-after-preserved : goal.loop-after-preserved
-loop-after-preserved c =
-    (search rules,
-     dots_lead c.loop-after.rest.now c.in-Some.text.now (ap option_copied (sym c.in-Some.is) ∙ c.cut.ensures.rest) (ap is_dots (sym c.cut.ensures.front) ∙ sym c.is_dots.ensures ∙ c.if-not-is_dots.false)
-     ∙ c.loop-after.invariant.1)
+loop-after-preserved c = (
+  search rules,
+  dots_lead c.loop-after.rest.now c.in-Some.text.now (ap option_copied (sym c.in-Some.is) ∙ c.cut.ensures.rest) (ap is_dots (sym c.cut.ensures.front) ∙ sym c.is_dots.ensures ∙ c.if-not-is_dots.false)
+      ∙ c.loop-after.invariant.1,
+)
