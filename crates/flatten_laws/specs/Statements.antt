@@ -1,41 +1,54 @@
--- What a list of node objects says: which nodes there are, and what stands under their properties.
-use Rattle.std.specs.Prelude.{ℕ, List, [], ◌∷◌, Bool, true, false, if◌then◌else◌, Option, Some, None}
+-- What node objects state: which entries stand under a property of a node.
+use Rattle.std.specs.Prelude.{ℕ, List, [], ◌∷◌, Bool, false, not, if◌then◌else◌, Option, Some, None, filter}
 use Rattle.std.specs.Str.{bytes_eq}
 use Rattle.std.specs.List.{list_any, flat_map}
 use Rattle.ld_model.specs.Tree.{Tree, text, array, object, Pairs, member_list, member_at, tree_list, same_tree}
 use Rattle.ld_model.specs.Keys.{id_key}
 
--- A text that may be missing.
+-- The text that stands somewhere, if one does.
 abbrev pub text_of : Option Tree → Option (List ℕ)
 text_of (Some (text s)) = Some s
 text_of _ = None
 
+-- The members of an object.
+abbrev pub members_in : Tree → Pairs
+members_in (object ms) = member_list ms
+members_in _ = []
+
+-- The values of an array.
+abbrev pub entries_in : Tree → List Tree
+entries_in (array ts) = tree_list ts
+entries_in _ = []
+
 -- The id of a node object: the text at its `@id` (JSON-LD 1.1, section 9.2).
 abbrev pub id_of : Tree → Option (List ℕ)
-id_of (object ms) = text_of (member_at id_key (member_list ms))
-id_of _ = None
+id_of t = text_of (member_at id_key (members_in t))
 
-abbrev pub is_this : List ℕ → Option (List ℕ) → Bool
-is_this id (Some s) = bytes_eq s id
-is_this id None = false
+abbrev is_same : List ℕ → Option (List ℕ) → Bool
+is_same id (Some s) = bytes_eq s id
+is_same id None = false
 
--- What a member of a node object states under a property: the entries of its array, if its key is that property.
+-- The node object has this id.
+abbrev pub has_id : List ℕ → Tree → Bool
+has_id id t = is_same id (id_of t)
+
+-- What a member states under a property: the entries of its array, if its key is that property.
 abbrev pub member_states : List ℕ → List ℕ × Tree → List Tree
-member_states property (k, array ts) = if bytes_eq k property then tree_list ts else []
-member_states property _ = []
+member_states property m = if bytes_eq m.0 property then entries_in m.1 else []
 
-abbrev pub properties_of : Tree → Pairs
-properties_of (object ms) = member_list ms
-properties_of _ = []
+-- What a node object states under a property of the node with this id: nothing, if that is not its own id.
+abbrev pub object_states : List ℕ → List ℕ → Tree → List Tree
+object_states id property t = if has_id id t then flat_map (member_states property) (members_in t) else []
 
--- What a node object states under a property of a node: nothing, if it has another id.
-abbrev pub node_states : List ℕ → List ℕ → Tree → List Tree
-node_states id property t = if is_this id (id_of t) then flat_map (member_states property) (properties_of t) else []
-
--- What node objects state under a property of a node, one after another.
+-- What node objects state there, one after another.
 abbrev pub statements : List ℕ → List ℕ → List Tree → List Tree
-statements id property ts = flat_map (node_states id property) ts
+statements id property ts = flat_map (object_states id property) ts
 
--- Some node object states this entry there.
+-- One of the node objects states this entry there.
 abbrev pub states : List ℕ → List ℕ → Tree → List Tree → Bool
 states id property entry ts = list_any (same_tree entry) (statements id property ts)
+
+-- The entries without those that equal an earlier one.
+abbrev pub once : List Tree → List Tree
+once [] = []
+once (t ∷ ts) = t ∷ filter (λ u. not (same_tree t u)) (once ts)
