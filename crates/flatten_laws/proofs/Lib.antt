@@ -4,3 +4,8 @@ pub mod Once
 pub mod Entries
 pub mod Graph
 pub mod Ids
+pub mod PlainNames
+pub mod Gathering
+pub mod Readout
+pub mod NoLabels
+pub mod Proved

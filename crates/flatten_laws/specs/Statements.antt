@@ -24,7 +24,7 @@ entries_in _ = []
 abbrev pub id_of : Tree → Option (List ℕ)
 id_of t = text_of (member_at id_key (members_in t))
 
-abbrev is_same : List ℕ → Option (List ℕ) → Bool
+abbrev pub is_same : List ℕ → Option (List ℕ) → Bool
 is_same id (Some s) = bytes_eq s id
 is_same id None = false
 
