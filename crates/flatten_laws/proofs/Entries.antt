@@ -1,10 +1,9 @@
 -- The entries of a property of a node, after each step of generation.
-use Rattle.std.proofs.Common.{◌≡◌, ℕ, List, [], ◌∷◌, Bool, true, false, cond, ◌&&◌, Option, Some, None, refl, sym, ap, ap₂, ◌∙◌, subst}
+use Rattle.std.proofs.Common.{◌≡◌, ℕ, List, Bool, true, false, cond, ◌&&◌, Option, Some, None, refl, sym, ap, ap₂, ◌∙◌, subst}
 use Rattle.std.specs.Str.{bytes_eq}
-use Rattle.ld_model.specs.Tree.{Tree, text, array, object, Pairs, member_list, members_of, member_list-members_of, member_at, put, trees_of, tree_list, tree_list-trees_of}
-use Rattle.ld_model.specs.Keys.{id_key}
+use Rattle.ld_model.specs.Tree.{Tree, object, Pairs, members_of, member_list-members_of, member_at, put, tree_list-trees_of}
 use Rattle.ld_model.specs.NodeMap.{new_node, node_or_new, node_at, with_node_by, with_node, entries_of, with_entries, changed}
-use Rattle.flatten_laws.proofs.Puts.{bytes_eq-refl, bytes_eq-exact, bytes_eq-sym, member_at-put, member_at-put_other}
+use Rattle.flatten_laws.proofs.Puts.{bytes_eq-exact, bytes_eq-sym, member_at-put, member_at-put_other}
 
 abbrev pub entries_at : List ℕ → List ℕ → Pairs → List Tree
 entries_at id property nodes = entries_of (member_at property (node_at id nodes))

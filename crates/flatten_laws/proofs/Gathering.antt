@@ -1,5 +1,5 @@
 -- What generation gathers under a property of a node, from a plain document.
-use Rattle.std.proofs.Common.{◌≡◌, ℕ, List, [], ◌∷◌, ◌++◌, Bool, true, false, cond, ◌&&◌, ◌||◌, Option, Some, None, is_some, refl, sym, ap, ap₂, ◌∙◌, subst}
+use Rattle.std.proofs.Common.{◌≡◌, ℕ, List, [], ◌∷◌, ◌++◌, Bool, true, false, cond, ◌&&◌, ◌||◌, Some, None, is_some, refl, sym, ap, ap₂, ◌∙◌, subst}
 use Rattle.std.specs.Str.{bytes_eq}
 use Rattle.std.specs.List.{flat_map}
 use Rattle.ld_model.specs.Tree.{Tree, text, array, object, Pairs, no_members, member, member_list, member_at}
@@ -8,12 +8,12 @@ use Rattle.ld_model.specs.Iri.{has_scheme}
 use Rattle.ld_model.specs.Label.{Labels}
 use Rattle.ld_model.specs.Plain.{is_iri_text, is_plain_entry, are_plain_entries, is_plain_array, is_plain_member, are_plain_members, is_plain_item, are_plain_items}
 use Rattle.ld_model.specs.NodeMap.{State, named, with_node, entries_of, added, changed, reference, reference_into, entry_by, entry_into, entries_into, named_property_into, property_into, properties_into, name_of, named_item_into, item_into, items_into}
-use Rattle.flatten_laws.specs.Statements.{entries_in, members_in, has_id, is_same, text_of, member_states, object_states, statements}
-use Rattle.flatten_laws.proofs.Puts.{bytes_eq-refl, bytes_eq-exact, bytes_eq-sym}
+use Rattle.flatten_laws.specs.Statements.{entries_in, has_id, is_same, text_of, member_states, object_states, statements}
+use Rattle.flatten_laws.proofs.Puts.{bytes_eq-exact}
 use Rattle.flatten_laws.proofs.SameTree.{both}
 use Rattle.flatten_laws.proofs.Once.{gathered, gathered-append}
 use Rattle.flatten_laws.proofs.Entries.{entries_at, entries_at-changed, node_at-with_node}
-use Rattle.flatten_laws.proofs.PlainNames.{named_iri, iri_member, PlainId, plain_id}
+use Rattle.flatten_laws.proofs.PlainNames.{named_iri, iri_member, plain_id}
 
 entries_at-with_node : (id q r : List ℕ) (nodes : Pairs) → entries_at q r (with_node id nodes) ≡ entries_at q r nodes
 entries_at-with_node id q r nodes = ap (λ ms. entries_of (member_at r ms)) (node_at-with_node q id nodes)

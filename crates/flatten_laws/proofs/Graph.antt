@@ -1,12 +1,12 @@
 -- What generation keeps true of the nodes: their ids ascend, and each has its id and its properties in order.
-use Rattle.std.proofs.Common.{◌≡◌, ℕ, List, [], ◌∷◌, Bool, true, false, cond, Option, Some, None, refl, sym, ap, ◌∙◌, subst}
+use Rattle.std.proofs.Common.{◌≡◌, ℕ, List, [], ◌∷◌, Bool, true, false, cond, Option, Some, None, refl, sym, ◌∙◌, subst}
 use Rattle.std.specs.Str.{bytes_eq}
 use Rattle.std.specs.List.{AllByRecursion}
 use Rattle.std.specs.Map.{lookup}
-use Rattle.ld_model.specs.Tree.{Tree, text, array, object, Pairs, member_list, members_of, member_list-members_of, member_at, put, trees_of, AreAscending}
+use Rattle.ld_model.specs.Tree.{Tree, text, object, Pairs, member_list, members_of, member_list-members_of, member_at, put, AreAscending}
 use Rattle.ld_model.specs.Keys.{id_key}
-use Rattle.ld_model.specs.Label.{Labels, is_blank, issue, label_of}
-use Rattle.ld_model.specs.NodeMap.{State, named, new_node, node_or_new, node_at, with_node_by, with_node, entries_of, added, with_entries, changed, target, reference, entry_by, entry_into, entries_into, named_property_into, property_into, properties_into, name_of, named_item_into, item_into, items_into}
+use Rattle.ld_model.specs.Label.{Labels, is_blank, issue}
+use Rattle.ld_model.specs.NodeMap.{State, named, new_node, node_or_new, node_at, with_node_by, with_node, entries_of, added, with_entries, changed, target, entry_by, entries_into, property_into, properties_into, item_into, items_into}
 use Rattle.flatten_laws.proofs.Puts.{bytes_eq-exact, bytes_eq-sym, at_first, at_later, member_at-put_other, all-put, ascending_nil, ascending_cons, ascending-put}
 
 -- Members of a node with this id.

@@ -1,14 +1,12 @@
 -- The nodes of the outcome ascend by their ids.
-use Rattle.std.proofs.Common.{◌≡◌, ℕ, List, [], ◌∷◌, Bool, true, false, cond, Option, Some, None, refl, sym, ap, ◌∙◌, subst}
+use Rattle.std.proofs.Common.{◌≡◌, ℕ, List, [], ◌∷◌, Bool, true, false, cond, Some, refl, sym, ap, subst}
 use Rattle.std.specs.Prelude.{filter, map as each}
 use Rattle.std.specs.List.{AllByRecursion}
-use Rattle.std.specs.List.Sorted.{IsStrictlySortedBy}
 use Rattle.std.specs.Map.{keys_of}
-use Rattle.ld_model.specs.Tree.{Tree, text, object, Pairs, member_list, members_of, member_list-members_of, member_at, AreAscending, byte_order}
-use Rattle.ld_model.specs.Keys.{id_key}
+use Rattle.ld_model.specs.Tree.{Tree, object, Pairs, member_list-members_of, AreAscending}
 use Rattle.ld_model.specs.Label.{no_labels}
-use Rattle.ld_model.specs.NodeMap.{items_into, generate}
-use Rattle.ld_model.specs.Flatten.{has_more, nodes_of, flatten}
+use Rattle.ld_model.specs.NodeMap.{items_into}
+use Rattle.ld_model.specs.Flatten.{has_more, nodes_of}
 use Rattle.flatten_laws.specs.Statements.{id_of, text_of}
 use Rattle.flatten_laws.specs.Laws.{flattened, AscendById, NodesAscendById}
 use Rattle.flatten_laws.proofs.Puts.{ascending_nil, ascending_cons, ascending_head, ascending_tail}

@@ -1,14 +1,13 @@
 -- A plain document leaves the labels as they are.
-use Rattle.std.proofs.Common.{◌≡◌, ℕ, List, [], ◌∷◌, Bool, true, false, cond, ◌&&◌, ◌||◌, Option, Some, None, is_some, refl, sym, ap, ◌∙◌}
+use Rattle.std.proofs.Common.{◌≡◌, ℕ, List, [], ◌∷◌, Bool, true, false, cond, Some, None, is_some, refl, ap, ◌∙◌}
 use Rattle.std.specs.Str.{bytes_eq}
 use Rattle.ld_model.specs.Tree.{Tree, text, object, Pairs, no_members, member, member_list, member_at}
 use Rattle.ld_model.specs.Keys.{id_key}
 use Rattle.ld_model.specs.Label.{Labels}
 use Rattle.ld_model.specs.Plain.{is_plain_entry, are_plain_entries, is_plain_member, are_plain_members, is_plain_item, are_plain_items}
 use Rattle.ld_model.specs.NodeMap.{State, named, entries_of, entry_by, entry_into, entries_into, property_into, properties_into, name_of, item_into, items_into}
-use Rattle.flatten_laws.proofs.Puts.{bytes_eq-exact}
 use Rattle.flatten_laws.proofs.SameTree.{both}
-use Rattle.flatten_laws.proofs.PlainNames.{named_iri, PlainId, plain_id}
+use Rattle.flatten_laws.proofs.PlainNames.{named_iri, plain_id}
 use Rattle.flatten_laws.proofs.Gathering.{scheme_of, property_parts, plain_entries}
 
 entry_keeps_by : (id p : List ℕ) (k to : List ℕ) (s : State) (b : Bool) → bytes_eq k id_key ≡ b → is_plain_entry (object (member k (text to) no_members)) ≡ true → (entry_by (cond b (Some to) None) id p (object (member k (text to) no_members)) s).labels ≡ s.labels

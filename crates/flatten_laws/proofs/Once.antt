@@ -1,12 +1,12 @@
 -- Entries that are added one after another, each unless an equal one is there.
-use Rattle.std.proofs.Common.{◌≡◌, ℕ, List, [], ◌∷◌, ◌++◌, Bool, true, false, cond, ◌&&◌, ◌||◌, not, refl, sym, ap, ap₂, ◌∙◌, subst, append_assoc, append-nil}
+use Rattle.std.proofs.Common.{◌≡◌, List, [], ◌∷◌, ◌++◌, Bool, true, false, cond, ◌&&◌, ◌||◌, not, refl, sym, ap, ◌∙◌, subst, append_assoc, append-nil}
 use Rattle.std.specs.Prelude.{filter}
 use Rattle.std.specs.List.{list_any, AllByRecursion, IsDistinct}
 use Rattle.std.proofs.lemmas.List.Folds.{list_any-append}
 use Rattle.ld_model.specs.Tree.{Tree, same_tree}
 use Rattle.ld_model.specs.NodeMap.{added}
 use Rattle.flatten_laws.specs.Statements.{once}
-use Rattle.flatten_laws.proofs.SameTree.{same_tree-refl, same_tree-exact, same_tree-sym}
+use Rattle.flatten_laws.proofs.SameTree.{same_tree-exact, same_tree-sym}
 
 abbrev pub gathered : List Tree → List Tree → List Tree
 gathered held [] = held

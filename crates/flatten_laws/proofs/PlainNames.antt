@@ -1,13 +1,13 @@
 -- The names of a plain document are those of no blank node.
-use Rattle.std.proofs.Common.{◌≡◌, ℕ, List, [], ◌∷◌, Bool, true, false, cond, ◌==◌, ◌&&◌, ◌||◌, Option, Some, None, is_some, refl, sym, ap, ◌∙◌, subst, eqb-true}
+use Rattle.std.proofs.Common.{◌≡◌, ℕ, List, [], ◌∷◌, Bool, true, false, cond, ◌==◌, ◌&&◌, Some, is_some, refl, sym, ap, ◌∙◌, subst, eqb-true}
 use Rattle.std.specs.Str.{bytes_eq}
-use Rattle.ld_model.specs.Tree.{Tree, null, truth, whole, one_one, text, array, object, Pairs, Members, no_members, member, member_list, member_at}
-use Rattle.ld_model.specs.Keys.{id_key, value_key}
+use Rattle.ld_model.specs.Tree.{Tree, text, Pairs, member_at}
+use Rattle.ld_model.specs.Keys.{id_key}
 use Rattle.ld_model.specs.Iri.{has_scheme}
 use Rattle.ld_model.specs.Label.{Labels, is_blank, issue}
 use Rattle.ld_model.specs.Plain.{is_iri_text, is_plain_array, is_plain_member, are_plain_members}
 use Rattle.ld_model.specs.NodeMap.{named}
-use Rattle.flatten_laws.proofs.Puts.{bytes_eq-exact, bytes_eq-sym, at_first, at_later}
+use Rattle.flatten_laws.proofs.Puts.{bytes_eq-sym, at_first, at_later}
 use Rattle.flatten_laws.proofs.SameTree.{both}
 
 first_byte : (a b : ℕ) (s : List ℕ) (t : Bool) → (a == 95) ≡ t → has_scheme (a ∷ b ∷ s) ≡ true → (t && (b == 58)) ≡ false

@@ -1,7 +1,6 @@
 -- Members that are put at a key.
-use Rattle.std.proofs.Common.{◌≡◌, ℕ, List, [], ◌∷◌, Bool, true, false, cond, Option, Some, None, Ordering, Less, Equal, Greater, refl, sym, ap, ◌∙◌, subst}
-use Rattle.std.specs.Ordering.{is_eq, nat_cmp, ordering_reverse, match_ordering}
-use Rattle.std.specs.Cmp.Lexicographic.{slice_cmp}
+use Rattle.std.proofs.Common.{◌≡◌, ℕ, List, [], ◌∷◌, Bool, true, false, cond, Some, Ordering, Less, Equal, Greater, refl, sym, ap, ◌∙◌, subst}
+use Rattle.std.specs.Ordering.{is_eq, ordering_reverse, match_ordering}
 use Rattle.std.specs.Bool.{one_answer}
 use Rattle.std.specs.Str.{bytes_eq}
 use Rattle.std.specs.List.{AllByRecursion}
@@ -11,7 +10,7 @@ use Rattle.std.proofs.lemmas.Cmp.{nat_list_cmp_total}
 use Rattle.std.proofs.lemmas.Map.Lookups.{exact_bytes}
 use Rattle.std.proofs.lemmas.Map.Text.{is_eq-slice_cmp}
 use Rattle.std.proofs.lemmas.Slice.Eq.{bytes_eq-Decides}
-use Rattle.ld_model.specs.Tree.{Tree, Pairs, byte_order, member_at, put, AreAscending, AreBefore, IsBefore}
+use Rattle.ld_model.specs.Tree.{Tree, Pairs, byte_order, member_at, put, AreAscending, IsBefore}
 
 pub bytes_eq-refl : (a : List ℕ) → bytes_eq a a ≡ true
 bytes_eq-refl a = (bytes_eq-Decides a a).1 refl

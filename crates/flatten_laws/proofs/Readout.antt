@@ -1,5 +1,5 @@
 -- What the nodes of the outcome state is what the graph has at them.
-use Rattle.std.proofs.Common.{◌≡◌, ℕ, ◌<◌, List, [], ◌∷◌, ◌++◌, Bool, true, false, cond, Option, Some, None, length, nat_lt, refl, sym, ap, ap₂, ◌∙◌, subst, append-nil, arith, lt-ltb}
+use Rattle.std.proofs.Common.{◌≡◌, ℕ, List, [], ◌∷◌, ◌++◌, Bool, true, false, cond, Some, None, length, nat_lt, refl, sym, ap, ap₂, ◌∙◌, subst, append-nil, arith, lt-ltb}
 use Rattle.std.specs.Prelude.{filter, map as each}
 use Rattle.std.specs.Str.{bytes_eq}
 use Rattle.std.specs.List.{AllByRecursion, flat_map}
@@ -7,11 +7,11 @@ use Rattle.std.specs.Map.{keys_of}
 use Rattle.std.specs.BTreeMap.{is_at}
 use Rattle.ld_model.specs.Tree.{Tree, text, array, object, Pairs, no_members, member, member_list, member_at, AreAscending, IsBefore, byte_order}
 use Rattle.ld_model.specs.Keys.{id_key}
-use Rattle.ld_model.specs.NodeMap.{node_or_new, node_at, new_node, entries_of}
+use Rattle.ld_model.specs.NodeMap.{node_or_new, entries_of}
 use Rattle.ld_model.specs.Flatten.{has_more, nodes_of}
-use Rattle.flatten_laws.specs.Statements.{entries_in, members_in, has_id, is_same, member_states, object_states, statements}
-use Rattle.flatten_laws.proofs.Puts.{bytes_eq-refl, bytes_eq-exact, bytes_eq-sym, apart_before, at_first, at_later, ascending_head, ascending_tail}
-use Rattle.flatten_laws.proofs.Graph.{IsNode, IsNodeOf, IsGraph}
+use Rattle.flatten_laws.specs.Statements.{entries_in, members_in, is_same, member_states, object_states, statements}
+use Rattle.flatten_laws.proofs.Puts.{bytes_eq-exact, bytes_eq-sym, apart_before, at_first, at_later, ascending_head, ascending_tail}
+use Rattle.flatten_laws.proofs.Graph.{IsNode, IsGraph}
 use Rattle.flatten_laws.proofs.Ids.{id_of-node}
 use Rattle.flatten_laws.proofs.Entries.{entries_at}
 

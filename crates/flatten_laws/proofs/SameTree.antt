@@ -1,12 +1,11 @@
 -- `same_tree` tells trees apart.
-use Rattle.std.proofs.Common.{◌≡◌, ℕ, ℤ, List, [], ◌∷◌, Bool, true, false, ◌&&◌, ◌||◌, not, refl, sym, ap, ap₂, ◌∙◌, subst, ◌↔◌}
+use Rattle.std.proofs.Common.{◌≡◌, Bool, true, false, ◌&&◌, refl, sym, ap, ap₂, subst}
 use Rattle.std.proofs.Math.Bool.{beq}
-use Rattle.std.specs.Bool.{Decides, one_answer}
-use Rattle.std.specs.Ordering.{int_eq}
+use Rattle.std.specs.Bool.{one_answer}
 use Rattle.std.specs.Str.{bytes_eq}
 use Rattle.std.proofs.lemmas.Bool.Decides.{Decides-int_eq}
 use Rattle.ld_model.specs.Tree.{Tree, null, truth, whole, one_one, text, array, object, Trees, no_trees, tree, Members, no_members, member, same_tree, same_trees, same_members}
-use Rattle.flatten_laws.specs.Laws.{TellsTreesApart}
+use Rattle.flatten_laws.specs.Laws.{TreesAreToldApart}
 use Rattle.flatten_laws.proofs.Puts.{bytes_eq-refl, bytes_eq-exact}
 
 pub both : (a b : Bool) → (a && b) ≡ true → (a ≡ true) × (b ≡ true)
@@ -74,5 +73,5 @@ same_tree-from a b is = subst (λ x. same_tree a x ≡ true) is (same_tree-refl 
 pub same_tree-sym : (a b : Tree) → same_tree a b ≡ same_tree b a
 same_tree-sym a b = one_answer {P = a ≡ b} (same_tree a b) (same_tree b a) (same_tree-exact a b, same_tree-from a b) (λ same. sym (same_tree-exact b a same), λ e. same_tree-from b a (sym e))
 
-pub trees_told_apart : TellsTreesApart
-trees_told_apart a b = (same_tree-exact a b, same_tree-from a b)
+pub trees_are_told_apart : TreesAreToldApart
+trees_are_told_apart a b = (same_tree-exact a b, same_tree-from a b)
