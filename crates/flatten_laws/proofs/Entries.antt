@@ -24,11 +24,11 @@ node_at-put id ms nodes = ap (node_or_new id) (member_at-put id (object (members
 node_at-put_other : (q id : List ℕ) (t : Tree) (nodes : Pairs) → bytes_eq q id ≡ false → node_at q (put id t nodes) ≡ node_at q nodes
 node_at-put_other q id t nodes apart = ap (node_or_new q) (member_at-put_other q id t nodes apart)
 
-node_at-changed : (id p : List ℕ) (f : List Tree → List Tree) (nodes : Pairs) → node_at id (changed id p f nodes) ≡ with_entries p f (node_at id nodes)
+pub node_at-changed : (id p : List ℕ) (f : List Tree → List Tree) (nodes : Pairs) → node_at id (changed id p f nodes) ≡ with_entries p f (node_at id nodes)
 unfolding changed
 node_at-changed id p f nodes = node_at-put id (with_entries p f (node_at id nodes)) nodes
 
-node_at-changed_other : (q id p : List ℕ) (f : List Tree → List Tree) (nodes : Pairs) → bytes_eq q id ≡ false → node_at q (changed id p f nodes) ≡ node_at q nodes
+pub node_at-changed_other : (q id p : List ℕ) (f : List Tree → List Tree) (nodes : Pairs) → bytes_eq q id ≡ false → node_at q (changed id p f nodes) ≡ node_at q nodes
 unfolding changed
 node_at-changed_other q id p f nodes apart = node_at-put_other q id _ nodes apart
 

@@ -9,3 +9,4 @@ pub mod Gathering
 pub mod Readout
 pub mod NoLabels
 pub mod Proved
+pub mod Properties

@@ -1,5 +1,5 @@
 -- What node objects state: which entries stand under a property of a node.
-use Rattle.std.specs.Prelude.{ℕ, List, [], ◌∷◌, Bool, false, not, if◌then◌else◌, Option, Some, None, filter}
+use Rattle.std.specs.Prelude.{ℕ, List, [], ◌∷◌, Bool, false, not, ◌&&◌, if◌then◌else◌, Option, Some, None, is_some, filter}
 use Rattle.std.specs.Str.{bytes_eq}
 use Rattle.std.specs.List.{list_any, flat_map}
 use Rattle.ld_model.specs.Tree.{Tree, text, array, object, Pairs, member_list, member_at, tree_list, same_tree}
@@ -47,6 +47,14 @@ statements id property ts = flat_map (object_states id property) ts
 -- One of the node objects states this entry there.
 abbrev pub states : List ℕ → List ℕ → Tree → List Tree → Bool
 states id property entry ts = list_any (same_tree entry) (statements id property ts)
+
+-- The object has a member with this key.
+abbrev pub has_member : List ℕ → Tree → Bool
+has_member key t = is_some (member_at key (members_in t))
+
+-- One of the node objects gives the node with this id this property, if only with an empty array.
+abbrev pub gives : List ℕ → List ℕ → List Tree → Bool
+gives id property ts = list_any (λ t. has_id id t && has_member property t) ts
 
 -- The entries without those that equal an earlier one.
 abbrev pub once : List Tree → List Tree
