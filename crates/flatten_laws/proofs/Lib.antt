@@ -10,3 +10,5 @@ pub mod Readout
 pub mod NoLabels
 pub mod Proved
 pub mod Properties
+pub mod PlainNodes
+pub mod Determined
