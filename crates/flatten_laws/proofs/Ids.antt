@@ -50,7 +50,7 @@ ids-nodes (m ∷ nodes) all = by_test (has_more m) (ids-nodes nodes all.1)
     by_test true rest = λ i. id_of-node m.0 m.1 all.0 i ∷ rest i
     by_test false rest = rest
 
-nodes_ascend : (nodes : Pairs) → IsGraph nodes → AscendById (nodes_of nodes)
+pub nodes_ascend : (nodes : Pairs) → IsGraph nodes → AscendById (nodes_of nodes)
 nodes_ascend nodes graph = (keys_of (filter has_more nodes), ids-nodes nodes graph.each, ascending-filter has_more nodes graph.ascending)
 
 pub nodes_ascend_by_id : NodesAscendById

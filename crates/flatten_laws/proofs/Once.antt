@@ -132,3 +132,18 @@ pub distinct-once : (ts : List Tree) → IsDistinct same_tree (once ts)
 unfolding IsDistinct
 distinct-once [] = tt
 distinct-once (t ∷ ts) = (others t (once ts), distinct-filter (λ u. not (same_tree t u)) (once ts) (distinct-once ts))
+
+-- A list without repetition stays.
+stays : (t : Tree) (ts : List Tree) → AllByRecursion (λ u. same_tree t u ≡ false) ts → filter (λ u. not (same_tree t u)) ts ≡ ts
+stays t [] all = refl
+stays t (u ∷ ts) all =
+    ap (λ b. cond (not b) (u ∷ filter (λ v. not (same_tree t v)) ts) (filter (λ v. not (same_tree t v)) ts)) all.0 ∙ ap (λ l. u ∷ l) (stays t ts all.1)
+
+once-distinct : (ts : List Tree) → IsDistinct same_tree ts → once ts ≡ ts
+unfolding IsDistinct
+once-distinct [] is = refl
+once-distinct (t ∷ ts) is =
+    ap (λ l. t ∷ filter (λ u. not (same_tree t u)) l) (once-distinct ts is.1) ∙ ap (λ l. t ∷ l) (stays t ts is.0)
+
+pub once-once : (ts : List Tree) → once (once ts) ≡ once ts
+once-once ts = once-distinct (once ts) (distinct-once ts)

@@ -61,5 +61,5 @@ abbrev pub OutcomeIsDetermined : Type 0
 OutcomeIsDetermined = (ts : List Tree) → are_plain_items ts ≡ true → (nodes : List Tree) → IsFlatteningOf ts nodes ↔ (nodes ≡ flattened ts)
 
 -- A document that is flattened stays as it is when it is flattened again.
-abbrev pub FlatteningSettles : Type 0
-FlatteningSettles = (ts : List Tree) → are_plain_items ts ≡ true → flattened (flattened ts) ≡ flattened ts
+abbrev pub FlatteningAgainChangesNothing : Type 0
+FlatteningAgainChangesNothing = (ts : List Tree) → are_plain_items ts ≡ true → flattened (flattened ts) ≡ flattened ts

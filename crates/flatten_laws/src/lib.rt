@@ -5,7 +5,7 @@
 //! order, to state what the document states and nothing else, and to state it once.
 #![tactic(auto)]
 
-ghost use Rattle.flatten_laws.specs.Laws.{EntriesAreKept, EntriesKeepTheirOrder, EntriesStandOnce, NodesAscendById, NoLabelIsIssued, TreesAreToldApart};
+ghost use Rattle.flatten_laws.specs.Laws.{EntriesAreKept, EntriesKeepTheirOrder, EntriesStandOnce, FlatteningAgainChangesNothing, NodesAscendById, NoLabelIsIssued, OutcomeIsDetermined, TreesAreToldApart};
 
 /// The nodes of the outcome have ids, which ascend strictly by their bytes. This holds of any list of trees.
 pub fn nodes_ascend_by_id()
@@ -26,6 +26,18 @@ pub fn entries_keep_their_order()
 /// No two equal entries stand under a property of a node of the outcome.
 pub fn entries_stand_once()
     ensures { EntriesStandOnce }
+{}
+
+/// The laws determine the outcome. Node objects are the flattening of a plain document exactly if they are plain, ascend by
+/// their ids and have their members in order, each has more than its id, they give each node the properties that the
+/// document gives it, and they state there what it states, each entry once and in order.
+pub fn outcome_is_determined()
+    ensures { OutcomeIsDetermined }
+{}
+
+/// Flattening the outcome of a plain document once more changes nothing.
+pub fn flattening_again_changes_nothing()
+    ensures { FlatteningAgainChangesNothing }
 {}
 
 /// A plain document has no blank nodes, so no label is issued for it.
