@@ -1,25 +1,23 @@
 -- What node objects state determines them.
-use Rattle.std.proofs.Common.{◌≡◌, ◌≢◌, ℕ, ◌<◌, List, [], ◌∷◌, ◌++◌, Bool, true, false, cond, ◌&&◌, Option, Some, None, is_some, unwrap_or, length, nat_lt, Ordering, Less, Equal, Greater, refl, sym, ap, ap₂, ◌∙◌, subst, ltb-true, lt-ltb}
+use Rattle.std.proofs.Common.{◌≡◌, ℕ, List, [], ◌∷◌, Bool, true, false, cond, Option, Some, None, is_some, length, nat_lt, Ordering, Less, Equal, Greater, refl, sym, ap, ◌∙◌, subst, lt-ltb}
 use Rattle.std.specs.Prelude.{filter, map as each}
-use Rattle.std.specs.Ordering.{is_eq}
 use Rattle.std.specs.Str.{bytes_eq}
 use Rattle.std.specs.List.{AllByRecursion}
 use Rattle.std.specs.List.Sorted.{IsStrictlySortedBy}
 use Rattle.std.specs.Map.{keys_of}
-use Rattle.std.proofs.lemmas.Cmp.{nat_list_cmp_total}
 use Rattle.std.proofs.lemmas.Map.Lookups.{exact_bytes}
 use Rattle.ld_model.specs.Tree.{Tree, text, array, object, Trees, no_trees, tree, Members, no_members, member, Pairs, member_list, members_of, member_at, trees_of, tree_list, AreAscending, IsBefore, byte_order}
 use Rattle.ld_model.specs.Keys.{id_key}
-use Rattle.ld_model.specs.Plain.{is_iri_text, is_plain_array, is_plain_member, are_plain_members, is_plain_item, are_plain_items}
-use Rattle.ld_model.specs.NodeMap.{new_node, node_or_new, node_at, entries_of}
+use Rattle.ld_model.specs.Plain.{is_plain_array, is_plain_member, are_plain_members, is_plain_item, are_plain_items}
+use Rattle.ld_model.specs.NodeMap.{node_or_new, node_at, entries_of}
 use Rattle.ld_model.specs.Flatten.{has_more, nodes_of}
-use Rattle.flatten_laws.specs.Statements.{id_of, text_of, members_in, statements, gives}
+use Rattle.flatten_laws.specs.Statements.{id_of, text_of, statements, gives}
 use Rattle.flatten_laws.specs.Laws.{AscendById, IsInOrder}
-use Rattle.flatten_laws.proofs.Puts.{bytes_eq-refl, bytes_eq-exact, bytes_eq-sym, apart_before, flipped, at_first, at_later, ascending_head, ascending_tail}
+use Rattle.flatten_laws.proofs.Puts.{all_after, bytes_eq-refl, bytes_eq-exact, apart_before, flipped, at_first, at_later, ascending_head, ascending_tail}
 use Rattle.flatten_laws.proofs.SameTree.{both}
-use Rattle.flatten_laws.proofs.PlainNames.{PlainId, plain_id}
+use Rattle.flatten_laws.proofs.PlainNames.{plain_id}
 use Rattle.flatten_laws.proofs.Gathering.{property_parts}
-use Rattle.flatten_laws.proofs.Graph.{IsNode, IsNodeOf, IsGraph, node_at_is}
+use Rattle.flatten_laws.proofs.Graph.{IsNode, IsGraph, node_at_is}
 use Rattle.flatten_laws.proofs.Entries.{entries_at}
 use Rattle.flatten_laws.proofs.Properties.{has_at, gives-nodes_of}
 use Rattle.flatten_laws.proofs.Readout.{statements-nodes_of}
@@ -28,10 +26,6 @@ use Rattle.flatten_laws.proofs.Readout.{statements-nodes_of}
 missing : (k : List ℕ) (ms : Pairs) → AllByRecursion (IsBefore k) (keys_of ms) → member_at k ms ≡ None
 missing k [] all = refl
 missing k (m ∷ ms) all = at_later k m ms (apart_before k m.0 all.0) ∙ missing k ms all.1
-
-all_after : (k l : List ℕ) (ms : Pairs) → IsBefore k l → AllByRecursion (IsBefore l) (keys_of ms) → AllByRecursion (IsBefore k) (keys_of ms)
-all_after k l [] less all = tt
-all_after k l (m ∷ ms) less all = (nat_list_cmp_total.trans k l m.0 less all.0, all_after k l ms less all.1)
 
 tails_by : (x y : List ℕ × Tree) (xs ys : Pairs) (k : List ℕ) (b : Bool) → bytes_eq k x.0 ≡ b → x.0 ≡ y.0 → AllByRecursion (IsBefore x.0) (keys_of xs) → AllByRecursion (IsBefore y.0) (keys_of ys) → member_at k (x ∷ xs) ≡ member_at k (y ∷ ys) → member_at k xs ≡ member_at k ys
 tails_by x y xs ys k true same keys before after at =

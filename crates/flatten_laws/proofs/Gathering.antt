@@ -74,7 +74,7 @@ pub plain_entries : (t : Tree) → is_plain_array t ≡ true → are_plain_entri
 plain_entries (array ts) plain = plain
 plain_entries _ plain = absurd (cc)
 
-entries_in-is : (t : Tree) → entries_of (Some t) ≡ entries_in t
+pub entries_in-is : (t : Tree) → entries_of (Some t) ≡ entries_in t
 entries_in-is (array ts) = refl
 entries_in-is _ = refl
 

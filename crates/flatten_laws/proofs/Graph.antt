@@ -7,6 +7,7 @@ use Rattle.ld_model.specs.Tree.{Tree, text, object, Pairs, member_list, members_
 use Rattle.ld_model.specs.Keys.{id_key}
 use Rattle.ld_model.specs.Label.{Labels, is_blank, issue}
 use Rattle.ld_model.specs.NodeMap.{State, named, new_node, node_or_new, node_at, with_node_by, with_node, entries_of, added, with_entries, changed, target, entry_by, entries_into, property_into, properties_into, item_into, items_into}
+use Rattle.flatten_laws.specs.Statements.{members_in}
 use Rattle.flatten_laws.proofs.Puts.{bytes_eq-exact, bytes_eq-sym, at_first, at_later, member_at-put_other, all-put, ascending_nil, ascending_cons, ascending-put}
 
 -- Members of a node with this id.
@@ -110,3 +111,8 @@ items_is_graph (t ∷ ts) s graph = items_is_graph ts _ (item_is_graph t s graph
 
 pub empty_is_graph : IsGraph []
 empty_is_graph = record { ascending = ascending_nil; each = tt }
+
+-- A node of a graph is an object, so it has the members that a look-up reads.
+pub members_of_node : (q k : List ℕ) (t : Tree) → IsNode (k, t) → members_in t ≡ node_or_new q (Some t)
+members_of_node q k (object ms) is = refl
+members_of_node q k _ is = absurd is

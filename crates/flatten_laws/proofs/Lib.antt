@@ -1,3 +1,4 @@
+mod Examples
 pub mod Puts
 pub mod SameTree
 pub mod Once
@@ -7,8 +8,8 @@ pub mod Ids
 pub mod PlainNames
 pub mod Gathering
 pub mod Readout
-pub mod NoLabels
-pub mod Proved
 pub mod Properties
 pub mod PlainNodes
+pub mod NoLabels
 pub mod Determined
+pub mod Proved

@@ -1,22 +1,22 @@
 -- The nodes of a plain document are plain.
-use Rattle.std.proofs.Common.{◌≡◌, ℕ, List, [], ◌∷◌, ◌++◌, Bool, true, false, cond, ◌&&◌, ◌||◌, Option, Some, None, is_some, refl, sym, ap, ap₂, ◌∙◌, subst}
+use Rattle.std.proofs.Common.{◌≡◌, ℕ, List, [], ◌∷◌, ◌++◌, Bool, true, false, cond, ◌&&◌, Option, Some, None, is_some, refl, sym, ap, ap₂, ◌∙◌, subst}
 use Rattle.std.specs.Prelude.{filter, map as each}
 use Rattle.std.specs.Str.{bytes_eq}
 use Rattle.std.specs.List.{list_any, AllByRecursion}
 use Rattle.std.proofs.lemmas.Bool.{false_from_ne_true, false≢true}
-use Rattle.ld_model.specs.Tree.{Tree, text, array, object, Pairs, no_members, member, member_list, members_of, member_list-members_of, member_at, put, trees_of, tree_list, tree_list-trees_of, same_tree}
+use Rattle.ld_model.specs.Tree.{Tree, text, array, object, Pairs, no_members, member, member_list, members_of, member_list-members_of, member_at, trees_of, tree_list-trees_of, same_tree}
 use Rattle.ld_model.specs.Keys.{id_key}
 use Rattle.ld_model.specs.Iri.{has_scheme}
 use Rattle.ld_model.specs.Label.{Labels}
 use Rattle.ld_model.specs.Plain.{is_iri_text, is_plain_entry, are_plain_entries, is_plain_array, is_plain_member, are_plain_members, is_plain_item, are_plain_items}
-use Rattle.ld_model.specs.NodeMap.{State, named, new_node, node_or_new, node_at, with_node_by, with_node, entries_of, added, with_entries, changed, reference, reference_into, entry_by, entry_into, entries_into, named_property_into, property_into, properties_into, name_of, named_item_into, item_into, items_into}
+use Rattle.ld_model.specs.NodeMap.{State, new_node, node_or_new, node_at, with_node_by, with_node, entries_of, added, with_entries, changed, reference, reference_into, entry_by, entry_into, entries_into, named_property_into, property_into, properties_into, name_of, named_item_into, item_into, items_into}
 use Rattle.ld_model.specs.Flatten.{has_more, nodes_of}
 use Rattle.flatten_laws.specs.Statements.{members_in}
-use Rattle.flatten_laws.proofs.Puts.{bytes_eq-exact, bytes_eq-sym, at_first, at_later, all-put}
+use Rattle.flatten_laws.proofs.Puts.{bytes_eq-exact, at_first, at_later, all-put}
 use Rattle.flatten_laws.proofs.SameTree.{both}
-use Rattle.flatten_laws.proofs.PlainNames.{named_iri, PlainId, plain_id}
+use Rattle.flatten_laws.proofs.PlainNames.{named_iri, plain_id}
 use Rattle.flatten_laws.proofs.Gathering.{scheme_of, property_parts, plain_entries}
-use Rattle.flatten_laws.proofs.Graph.{IsNode, IsNodeOf}
+use Rattle.flatten_laws.proofs.Graph.{IsNode}
 
 -- The members of the node are plain.
 abbrev pub IsPlainNode : List ℕ × Tree → Type 0

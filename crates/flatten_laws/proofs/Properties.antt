@@ -1,23 +1,23 @@
 -- Which properties a node has, after each step of generation and in the outcome.
-use Rattle.std.proofs.Common.{◌≡◌, ℕ, List, [], ◌∷◌, Bool, true, false, cond, ◌&&◌, ◌||◌, not, Option, Some, None, is_some, length, nat_lt, refl, sym, ap, ap₂, ◌∙◌, subst, arith, lt-ltb}
+use Rattle.std.proofs.Common.{◌≡◌, ℕ, List, [], ◌∷◌, Bool, true, false, cond, ◌&&◌, ◌||◌, Option, Some, None, is_some, length, nat_lt, refl, sym, ap, ap₂, ◌∙◌, subst, arith, lt-ltb}
 use Rattle.std.specs.Prelude.{filter, map as each}
 use Rattle.std.specs.Str.{bytes_eq}
-use Rattle.std.specs.List.{list_any, AllByRecursion}
+use Rattle.std.specs.List.{AllByRecursion}
 use Rattle.std.specs.Map.{keys_of}
-use Rattle.ld_model.specs.Tree.{Tree, text, array, object, Pairs, no_members, member, member_list, member_at, put, AreAscending, IsBefore}
+use Rattle.ld_model.specs.Tree.{Tree, text, object, Pairs, no_members, member, member_list, member_at, AreAscending, IsBefore}
 use Rattle.ld_model.specs.Keys.{id_key}
 use Rattle.ld_model.specs.Label.{Labels}
-use Rattle.ld_model.specs.Plain.{is_plain_array, is_plain_member, are_plain_members, is_plain_item, are_plain_items}
+use Rattle.ld_model.specs.Plain.{is_plain_member, are_plain_members, is_plain_item, are_plain_items}
 use Rattle.ld_model.specs.Iri.{has_scheme}
 use Rattle.ld_model.specs.NodeMap.{State, named, node_or_new, node_at, with_node, entries_of, with_entries, added, changed, target, reference, entry_by, entry_into, entries_into, named_property_into, property_into, properties_into, name_of, named_item_into, item_into, items_into}
 use Rattle.ld_model.specs.Flatten.{has_more, nodes_of}
-use Rattle.flatten_laws.specs.Statements.{members_in, has_id, is_same, text_of, has_member, gives}
+use Rattle.flatten_laws.specs.Statements.{has_id, is_same, text_of, has_member, gives}
 use Rattle.flatten_laws.proofs.Puts.{bytes_eq-exact, bytes_eq-sym, apart_before, at_first, at_later, member_at-put, member_at-put_other, ascending_head, ascending_tail}
 use Rattle.flatten_laws.proofs.SameTree.{both}
 use Rattle.flatten_laws.proofs.Entries.{node_at-changed, node_at-changed_other, node_at-with_node}
-use Rattle.flatten_laws.proofs.PlainNames.{named_iri, PlainId, plain_id}
+use Rattle.flatten_laws.proofs.PlainNames.{named_iri, plain_id}
 use Rattle.flatten_laws.proofs.Gathering.{property_parts}
-use Rattle.flatten_laws.proofs.Graph.{IsNode, IsNodeOf, IsGraph}
+use Rattle.flatten_laws.proofs.Graph.{IsNode, IsGraph, members_of_node}
 use Rattle.flatten_laws.proofs.Ids.{id_of-node}
 
 or_true : (a : Bool) → true ≡ (a || true)
@@ -173,10 +173,6 @@ later_nodes_give_none q r [] apart later all = refl
 later_nodes_give_none q r (m ∷ nodes) apart later all =
     gives-nodes q r m nodes apart all.0
     ∙ ap₂ ◌||◌ (gives_none q r m all.0 (bytes_eq-sym m.0 q ∙ apart_before q m.0 later.0)) (later_nodes_give_none q r nodes apart later.1 all.1)
-
-members_of_node : (q k : List ℕ) (t : Tree) → IsNode (k, t) → members_in t ≡ node_or_new q (Some t)
-members_of_node q k (object ms) is = refl
-members_of_node q k _ is = absurd is
 
 nodes_by : (q r : List ℕ) (m : List ℕ × Tree) (nodes : Pairs) (b : Bool) → bytes_eq r id_key ≡ false → bytes_eq q m.0 ≡ b → AreAscending (m ∷ nodes) → AllByRecursion IsNode (m ∷ nodes) → gives q r (nodes_of nodes) ≡ has_at q r nodes → gives q r (nodes_of (m ∷ nodes)) ≡ has_at q r (m ∷ nodes)
 nodes_by q r m nodes true apart same sorted all rest =

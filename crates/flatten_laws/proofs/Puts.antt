@@ -97,7 +97,7 @@ by_keys P (m ∷ ms) all = (all.0, by_keys P ms all.1)
 keys-put : (P : List ℕ → Type 0) (k : List ℕ) (t : Tree) (ms : Pairs) → P k → AllByRecursion P (keys_of ms) → AllByRecursion P (keys_of (put k t ms))
 keys-put P k t ms here all = keys_by P (put k t ms) (all-put (λ m. P m.0) k t ms here (by_keys P ms all))
 
-all_after : (k l : List ℕ) (ms : Pairs) → IsBefore k l → AllByRecursion (IsBefore l) (keys_of ms) → AllByRecursion (IsBefore k) (keys_of ms)
+pub all_after : (k l : List ℕ) (ms : Pairs) → IsBefore k l → AllByRecursion (IsBefore l) (keys_of ms) → AllByRecursion (IsBefore k) (keys_of ms)
 all_after k l [] less all = tt
 all_after k l (m ∷ ms) less all = (nat_list_cmp_total.trans k l m.0 less all.0, all_after k l ms less all.1)
 

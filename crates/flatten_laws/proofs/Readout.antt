@@ -5,19 +5,16 @@ use Rattle.std.specs.Str.{bytes_eq}
 use Rattle.std.specs.List.{AllByRecursion, flat_map}
 use Rattle.std.specs.Map.{keys_of}
 use Rattle.std.specs.BTreeMap.{is_at}
-use Rattle.ld_model.specs.Tree.{Tree, text, array, object, Pairs, no_members, member, member_list, member_at, AreAscending, IsBefore, byte_order}
+use Rattle.ld_model.specs.Tree.{Tree, text, object, Pairs, no_members, member, member_list, member_at, AreAscending, IsBefore, byte_order}
 use Rattle.ld_model.specs.Keys.{id_key}
 use Rattle.ld_model.specs.NodeMap.{node_or_new, entries_of}
 use Rattle.ld_model.specs.Flatten.{has_more, nodes_of}
 use Rattle.flatten_laws.specs.Statements.{entries_in, members_in, is_same, member_states, object_states, statements}
 use Rattle.flatten_laws.proofs.Puts.{bytes_eq-exact, bytes_eq-sym, apart_before, at_first, at_later, ascending_head, ascending_tail}
-use Rattle.flatten_laws.proofs.Graph.{IsNode, IsGraph}
+use Rattle.flatten_laws.proofs.Graph.{IsNode, IsGraph, members_of_node}
 use Rattle.flatten_laws.proofs.Ids.{id_of-node}
+use Rattle.flatten_laws.proofs.Gathering.{entries_in-is}
 use Rattle.flatten_laws.proofs.Entries.{entries_at}
-
-entries_in-is : (t : Tree) → entries_in t ≡ entries_of (Some t)
-entries_in-is (array ts) = refl
-entries_in-is _ = refl
 
 -- Among members in order, one alone states something under a property.
 later_state_none : (r : List ℕ) (ms : Pairs) → AllByRecursion (IsBefore r) (keys_of ms) → flat_map (member_states r) ms ≡ []
@@ -29,7 +26,7 @@ members_by : (r : List ℕ) (m : List ℕ × Tree) (ms : Pairs) (b : Bool) → b
 members_by r m ms true same sorted rest =
     let none : flat_map (member_states r) ms ≡ [] = later_state_none r ms (subst (λ x. AllByRecursion (IsBefore x) (keys_of ms)) (sym (bytes_eq-exact r m.0 same)) (ascending_head m ms sorted)) in
     ap₂ ◌++◌ (ap (λ b. cond b (entries_in m.1) []) (bytes_eq-sym m.0 r ∙ same)) none
-    ∙ append-nil (entries_in m.1) ∙ entries_in-is m.1 ∙ sym (ap entries_of (at_first r m ms same))
+    ∙ append-nil (entries_in m.1) ∙ sym (entries_in-is m.1) ∙ sym (ap entries_of (at_first r m ms same))
 members_by r m ms false apart sorted rest =
     ap (λ b. cond b (entries_in m.1) [] ++ flat_map (member_states r) ms) (bytes_eq-sym m.0 r ∙ apart)
     ∙ rest ∙ sym (ap entries_of (at_later r m ms apart))
@@ -87,10 +84,6 @@ later_nodes_state_none q r [] later all = refl
 later_nodes_state_none q r (m ∷ nodes) later all =
     statements-nodes q r m nodes all.0
     ∙ ap₂ ◌++◌ (states_none q r m all.0 (bytes_eq-sym m.0 q ∙ apart_before q m.0 later.0)) (later_nodes_state_none q r nodes later.1 all.1)
-
-members_of_node : (q k : List ℕ) (t : Tree) → IsNode (k, t) → members_in t ≡ node_or_new q (Some t)
-members_of_node q k (object ms) is = refl
-members_of_node q k _ is = absurd is
 
 nodes_by : (q r : List ℕ) (m : List ℕ × Tree) (nodes : Pairs) (b : Bool) → bytes_eq q m.0 ≡ b → AreAscending (m ∷ nodes) → AllByRecursion IsNode (m ∷ nodes) → statements q r (nodes_of nodes) ≡ entries_at q r nodes → statements q r (nodes_of (m ∷ nodes)) ≡ entries_at q r (m ∷ nodes)
 nodes_by q r m nodes true same sorted all rest =
