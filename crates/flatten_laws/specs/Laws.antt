@@ -47,8 +47,8 @@ abbrev pub IsInOrder : Tree → Type 0
 IsInOrder t = AreAscending (members_in t) × (1 < length (members_in t))
 
 -- What it is for node objects to be the items of a document, flattened: they are plain, in order, and each has more than
--- its id; they give a node the properties that the items give it; and they state there what the items state, each entry
--- once.
+-- its id; they give a node the properties that the items give it; and they state there what the items state, in the order in
+-- which they state it first, and each entry once.
 pub record IsFlatteningOf (items nodes : List Tree) : Type 0 where
   pub plain : are_plain_items nodes ≡ true
   pub ascend : AscendById nodes

@@ -5,7 +5,7 @@ use Rattle.std.specs.List.{list_any, flat_map}
 use Rattle.ld_model.specs.Tree.{Tree, text, array, object, Pairs, member_list, member_at, tree_list, same_tree}
 use Rattle.ld_model.specs.Keys.{id_key}
 
--- The text that stands somewhere, if one does.
+-- The text that stands at a key, if one does.
 abbrev pub text_of : Option Tree → Option (List ℕ)
 text_of (Some (text s)) = Some s
 text_of _ = None
@@ -24,6 +24,7 @@ entries_in _ = []
 abbrev pub id_of : Tree → Option (List ℕ)
 id_of t = text_of (member_at id_key (members_in t))
 
+-- There is an id, and it is this one.
 abbrev pub is_same : List ℕ → Option (List ℕ) → Bool
 is_same id (Some s) = bytes_eq s id
 is_same id None = false
