@@ -1,0 +1,4 @@
+pub mod Out
+pub mod Lines
+pub mod Stops
+pub mod Promise

@@ -1,0 +1,81 @@
+-- What a call of the program keeps.
+use Rattle.std.specs.Prelude.{ℕ, ◌≡◌, List, Option, IfSome, Bool, ⊤}
+use Rattle.std.specs.Io.KnownBytes.{Appends, IsAtEnd}
+use Rattle.ld_io.specs.Faults.{Rose}
+use Rattle.ld_io.specs.Sinks.{IsFinished, AppendsFront}
+use Rattle.ld_run.specs.declared.status.Status.{Status}
+use Rattle.ld_run.specs.declared.status.Status.TheVariants as status
+use Rattle.ld_run.specs.declared.status.Status.TheVariants.{Done, Refused, Usage, ReadFault, WriteFault, TooLarge, OutOfMemory}
+use Rattle.ld_run.specs.Lines.{line_of}
+use Rattle.ld_run.specs.Out.{Out, bytes, refused, usage, too_large}
+
+-- What a call did to a sink: its bytes before and after, whether it is finished, and its counts of faults.
+pub record Sunk : Type 0 where
+  pub old : Option (List ℕ)
+  pub new : Option (List ℕ)
+  pub finished : Option Bool
+  pub before : ℕ
+  pub now : ℕ
+
+-- That of a sink with these meanings.
+abbrev pub sunk : {W : Type 0} → (W → Option (List ℕ)) → (W → Option Bool) → (W → ℕ) → W → W → Sunk
+sunk held finished faults old new = record { old = held old; new = held new; finished = finished new; before = faults old; now = faults new }
+
+-- A sink's count of faults rose.
+abbrev pub HasRisen : Sunk → Type 0
+HasRisen s = Rose s.before s.now
+
+-- The line of the status was appended, and the sink is finished.
+abbrev pub SaysLine : Status → Sunk → Type 0
+SaysLine status err = Appends err.old err.new (line_of status) × IsFinished err.finished
+
+-- The bytes that were due are appended.
+abbrev pub WritesDue : Option Out → Sunk → Type 0
+WritesDue due out = IfSome due (λ d. (b : List ℕ) × (d ≡ bytes b) × Appends out.old out.new b)
+
+-- `Done`: the due bytes are appended, the source is at its end, and the output is finished.
+pub record IsDone (due : Option Out) (left : Option (List ℕ)) (out : Sunk) : Type 0 where
+  pub written : WritesDue due out
+  pub read : IsAtEnd left
+  pub finished : IsFinished out.finished
+
+-- A refusal, `Usage` and `TooLarge` come only where they are due, and say their line.
+abbrev pub IsRefused : Status → Option Out → Sunk → Type 0
+IsRefused (Refused r) due err = IfSome due (λ d. d ≡ refused r) × SaysLine (status.Refused r) err
+IsRefused Usage due err = IfSome due (λ d. d ≡ usage) × SaysLine status.Usage err
+IsRefused TooLarge due err = IfSome due (λ d. d ≡ too_large) × SaysLine status.TooLarge err
+IsRefused _ due err = ⊤
+
+-- Where no bytes are due, the output stays as it was.
+abbrev pub OutStays : Out → Type 0 → Type 0
+OutStays (bytes b) same = ⊤
+OutStays _ same = same
+
+-- Some front of the due bytes.
+abbrev pub WritesFront : Out → Sunk → Type 0
+WritesFront (bytes b) out = AppendsFront out.old out.new b
+WritesFront _ out = ⊤
+
+-- When the line of a status may stand, in part or whole, in the error output after a fault of writing.
+abbrev pub MaySay : Option Out → ℕ → ℕ → Sunk → Status → Type 0
+MaySay due before now out Done = ⊥
+MaySay due before now out (Refused r) = IfSome due (λ d. d ≡ refused r)
+MaySay due before now out Usage = IfSome due (λ d. d ≡ usage)
+MaySay due before now out TooLarge = IfSome due (λ d. d ≡ too_large)
+MaySay due before now out ReadFault = Rose before now
+MaySay due before now out WriteFault = HasRisen out
+MaySay due before now out OutOfMemory = ⊤
+
+-- Some front of the line of a status that may stand there.
+abbrev pub SaysFront : Option Out → ℕ → ℕ → Sunk → Sunk → Type 0
+SaysFront due before now out err = (s : Status) × MaySay due before now out s × AppendsFront err.old err.new (line_of s)
+
+-- The status of what is due.
+abbrev pub status_for : Out → Status
+status_for (bytes b) = Done
+status_for (refused r) = status.Refused r
+status_for usage = status.Usage
+status_for too_large = status.TooLarge
+
+abbrev pub IsDueStatus : Status → Option Out → Type 0
+IsDueStatus status due = IfSome due (λ d. status ≡ status_for d)

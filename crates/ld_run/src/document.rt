@@ -1,0 +1,123 @@
+// From the bytes of a document to those of its flattened form.
+ghost use Rattle.std.specs.Prelude.{◌≡◌, ◌++◌, ◌∷◌, [], List, ℕ, true, IfOk, MatchResult, filter};
+ghost use Rattle.ld_model.specs.Tree as model;
+ghost use Rattle.ld_model.specs.Tree.{Pairs, array, object, trees_of, members_of};
+ghost use Rattle.ld_model.specs.CompactText.{compact};
+ghost use Rattle.ld_model.specs.Keys.{default_graph};
+ghost use Rattle.ld_model.specs.Flatten.{has_more, nodes_of, flatten};
+ghost use Rattle.ld_model.specs.NodeMap.{generate};
+ghost use Rattle.ld_model.specs.Plain.{are_plain_items};
+ghost use Rattle.ld_json.specs.View.{view, members_view};
+ghost use Rattle.ld_json.specs.Read.{reading, reads};
+ghost use Rattle.ld_run.specs.Out.{Out, flat, plain_items_of, is_bytes};
+ghost use Rattle.ld_run.specs.Stops.{IsStopOf};
+
+use crate::plain::is_plain;
+use crate::status::Refusal;
+use ld_json::{Members, ReadRefusal, Text, Tree, Trees, read_tree, text_of};
+use node_ops::{MapStop, NodeMap, node_map};
+use std::alloc::{AllocError, Global};
+
+/// Why there is nothing to write.
+#[derive(Clone, Copy, Debug, PartialEq, Eq)]
+pub(crate) enum Stop {
+    Refused(Refusal),
+    Usage,
+    ReadFault,
+    TooLarge,
+    OutOfMemory,
+}
+
+impl From<AllocError> for Stop {
+    ghost use Rattle.ld_run.specs.declared.document.Stop.TheVariants.{OutOfMemory};
+
+    ghost from_gives = { λ _ stop. stop ≡ OutOfMemory };
+
+    fn from(_error: AllocError) -> Stop {
+        Stop::OutOfMemory
+    }
+}
+
+/// The text of the flattened document, with a line feed.
+pub(crate) fn flattened_text(alloc: Global, bytes: Vec<u8>) -> Result<Vec<u8>, Stop>
+    ensures { MatchResult result (λ v. flat bytes.items ≡ Out.bytes v.items) (λ stop. IsStopOf stop (flat bytes.items)) }
+{
+    let items = plain_items(alloc, bytes)?;
+    let nodes = flattened(alloc, items)?;
+    let mut text = text_of(alloc, &Tree::Items(nodes))?;
+    text.push(b'\n')?;
+    Ok(text)
+}
+
+/// The items of a plain document. Its bytes are let go.
+fn plain_items(alloc: Global, bytes: Vec<u8>) -> Result<Trees, Stop>
+    ensures { MatchResult result (λ items. (reading bytes.items ≡ reads (array (trees_of items))) × (are_plain_items items ≡ true))
+        (λ stop. IsStopOf stop (flat bytes.items)) }
+{
+    let tree = read(alloc, bytes.as_slice())?;
+    if !is_plain(&tree) {
+        return Err(Stop::Refused(Refusal::NotBuilt));
+    }
+    match tree {
+        Tree::Items(items) => Ok(items),
+        _ => Err(Stop::Refused(Refusal::NotBuilt)),
+    }
+}
+
+fn read(alloc: Global, bytes: &[u8]) -> Result<Tree, Stop>
+    ensures { MatchResult result (λ t. reading bytes.now ≡ reads (view t)) (λ stop. IsStopOf stop (flat bytes.now)) }
+{
+    match read_tree(alloc, bytes) {
+        Ok(tree) => Ok(tree),
+        Err(ReadRefusal::Syntax) => Err(Stop::Refused(Refusal::Syntax)),
+        Err(ReadRefusal::NotBuilt) => Err(Stop::Refused(Refusal::NotBuilt)),
+        Err(ReadRefusal::OutOfMemory) => Err(Stop::OutOfMemory),
+    }
+}
+
+/// The flattened document (JSON-LD 1.1 API, section 7.1). The document is let go once its node map stands.
+fn flattened(alloc: Global, items: Trees) -> Result<Trees, AllocError>
+    requires { are_plain_items items ≡ true }
+    ensures { IfOk result (λ nodes. nodes ≡ flatten (generate items).graphs) }
+{
+    let map = match node_map(alloc, &items) {
+        Ok((map, _)) => map,
+        Err(_) => return Err(AllocError),
+    };
+    flatten(alloc, map)
+}
+
+/// Flattening of a node map that has just the default graph.
+fn flatten(alloc: Global, map: NodeMap) -> Result<Trees, AllocError>
+    requires { (nodes : Pairs) × (map.graphs ≡ (default_graph, object (members_of nodes)) ∷ []) }
+    ensures { IfOk result (λ nodes. nodes ≡ flatten map.graphs) }
+{
+    let NodeMap { mut graphs } = map;
+    match graphs.take("@default") {
+        Some(Tree::Map(graph)) => nodes_of(alloc, graph),
+        _ => Ok(Trees::new(alloc)),
+    }
+}
+
+/// The nodes of a graph in the order of their ids, but those with nothing but an id.
+fn nodes_of(alloc: Global, graph: Members) -> Result<Trees, AllocError>
+    ensures { IfOk result (λ nodes. nodes ≡ nodes_of graph) }
+{
+    let mut nodes = Trees::new(alloc);
+    for (_, node) in graph.into_vec() {
+        if has_more(&node) {
+            nodes.push(node)?;
+        }
+    }
+    Ok(nodes)
+}
+
+/// Whether a node has more than its id.
+fn has_more(node: &Tree) -> bool
+    ensures { (id : List ℕ) → result ≡ has_more (id, view node.now) }
+{
+    match node {
+        Tree::Map(members) => members.len() > 1,
+        _ => false,
+    }
+}

@@ -1,0 +1,13 @@
+//! The program's call: words, input and outputs in, one status out.
+//!
+//! [`run_alone`] does all that the program does, on one thread. Its contract says what is written for which words and
+//! which input, and when each other answer comes.
+#![tactic(auto)]
+
+mod document;
+mod plain;
+mod run;
+mod status;
+
+pub use run::run_alone;
+pub use status::{Refusal, Status};

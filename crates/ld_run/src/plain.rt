@@ -1,0 +1,115 @@
+// Whether a document is plain.
+ghost use Rattle.std.specs.Prelude.{◌≡◌};
+ghost use Rattle.ld_model.specs.Plain.{is_plain, is_plain_item, are_plain_items, is_plain_member, are_plain_members, is_plain_array, is_plain_pair, is_plain_entry, are_plain_entries, is_iri_text};
+ghost use Rattle.ld_json.specs.View.{view, trees_view, members_view};
+
+use iri_ref::has_scheme;
+use ld_json::{Text, Tree};
+
+/// Whether a document is an array of node objects with an id, whose properties have arrays of texts and references.
+pub(crate) fn is_plain(tree: &Tree) -> bool
+    ensures { result ≡ is_plain (view tree.now) }
+{
+    match tree {
+        Tree::Items(items) => are_plain_items(items.as_slice()),
+        _ => false,
+    }
+}
+
+fn are_plain_items(items: &[Tree]) -> bool
+    ensures { result ≡ are_plain_items (trees_view items.now) }
+{
+    for item in items {
+        if !is_plain_item(item) {
+            return false;
+        }
+    }
+    true
+}
+
+fn is_plain_item(item: &Tree) -> bool
+    ensures { result ≡ is_plain_item (view item.now) }
+{
+    match item {
+        Tree::Map(members) => {
+            members.get("@id").is_some() && are_plain_members(members.as_slice())
+        }
+        _ => false,
+    }
+}
+
+fn are_plain_members(members: &[(Text, Tree)]) -> bool
+    ensures { result ≡ are_plain_members (members_view members.now) }
+{
+    for member in members {
+        if !is_plain_member(member) {
+            return false;
+        }
+    }
+    true
+}
+
+/// An id, or a property with its entries.
+fn is_plain_member(member: &(Text, Tree)) -> bool
+    ensures { result ≡ is_plain_member (member.now.0, view member.now.1) }
+{
+    let key = member.0.as_str();
+    if key == "@id" {
+        is_iri_text(&member.1)
+    } else {
+        has_scheme(key) && is_plain_array(&member.1)
+    }
+}
+
+fn is_iri_text(tree: &Tree) -> bool
+    ensures { result ≡ is_iri_text (view tree.now) }
+{
+    match tree {
+        Tree::Str(text) => has_scheme(text.as_str()),
+        _ => false,
+    }
+}
+
+fn is_plain_array(tree: &Tree) -> bool
+    ensures { result ≡ is_plain_array (view tree.now) }
+{
+    match tree {
+        Tree::Items(entries) => are_plain_entries(entries.as_slice()),
+        _ => false,
+    }
+}
+
+fn are_plain_entries(entries: &[Tree]) -> bool
+    ensures { result ≡ are_plain_entries (trees_view entries.now) }
+{
+    for entry in entries {
+        if !is_plain_entry(entry) {
+            return false;
+        }
+    }
+    true
+}
+
+/// A value object with just a text, or a reference.
+fn is_plain_entry(entry: &Tree) -> bool
+    ensures { result ≡ is_plain_entry (view entry.now) }
+{
+    match entry {
+        Tree::Map(members) => match members.as_slice() {
+            [(key, tree)] => is_plain_pair(key, tree),
+            _ => false,
+        },
+        _ => false,
+    }
+}
+
+fn is_plain_pair(key: &Text, tree: &Tree) -> bool
+    ensures { result ≡ is_plain_pair key.now (view tree.now) }
+{
+    match tree {
+        Tree::Str(text) => {
+            key.as_str() == "@value" || (key.as_str() == "@id" && has_scheme(text.as_str()))
+        }
+        _ => false,
+    }
+}
