@@ -2,3 +2,4 @@ pub mod Out
 pub mod Lines
 pub mod Stops
 pub mod Promise
+pub mod PlainPair

@@ -2,7 +2,7 @@
 use Rattle.std.specs.Prelude.{ℕ, ◌++◌, List, [], ◌∷◌, length, Bool, true, false, nat_lt, if◌then◌else◌, Option, Some, None, codes, String, string_bytes, map}
 use Rattle.std.specs.Str.{bytes_eq}
 use Rattle.std.specs.declared.alloc.Global.{Global}
-use Rattle.ld_io.specs.declared.TheConstants.{LIMIT}
+use Rattle.ld_io.specs.declared.whole.TheConstants.{LIMIT}
 use Rattle.ld_model.specs.Tree.{Tree, array, trees_of, tree_list}
 use Rattle.ld_model.specs.CompactText.{compact}
 use Rattle.ld_model.specs.Plain.{is_plain}

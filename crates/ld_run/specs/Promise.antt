@@ -1,5 +1,5 @@
 -- What a call of the program keeps.
-use Rattle.std.specs.Prelude.{ℕ, ◌≡◌, List, Option, IfSome, Bool, ⊤}
+use Rattle.std.specs.Prelude.{ℕ, ◌≡◌, ◌⊎◌, List, Option, IfSome, Bool, ⊤}
 use Rattle.std.specs.Io.KnownBytes.{Appends, IsAtEnd}
 use Rattle.ld_io.specs.Faults.{Rose}
 use Rattle.ld_io.specs.Sinks.{IsFinished, AppendsFront}
@@ -79,3 +79,14 @@ status_for too_large = status.TooLarge
 
 abbrev pub IsDueStatus : Status → Option Out → Type 0
 IsDueStatus status due = IfSome due (λ d. status ≡ status_for d)
+
+-- The line of a status was said, or it couldn't be.
+abbrev pub Said : Status → Status → Sunk → Type 0
+Said result status err = ((result ≡ status) × SaysLine status err) ⊎ ((result ≡ WriteFault) × HasRisen err)
+
+-- What writing the due bytes did: all went well and nothing was said, or some front was written and the fault was said.
+abbrev pub Wrote : Status → List ℕ → Sunk → Sunk → Type 0 → Type 0
+Wrote Done b out err same = Appends out.old out.new b × IsFinished out.finished × same
+Wrote WriteFault b out err same =
+    AppendsFront out.old out.new b × HasRisen out × AppendsFront err.old err.new (line_of WriteFault) × ((HasRisen err → ⊥) → SaysLine WriteFault err)
+Wrote _ b out err same = ⊥

@@ -1,15 +1,16 @@
 // From the bytes of a document to those of its flattened form.
-ghost use Rattle.std.specs.Prelude.{◌≡◌, ◌++◌, ◌∷◌, [], List, ℕ, true, IfOk, MatchResult, filter};
+ghost use Rattle.std.specs.Prelude.{◌≡◌, ◌++◌, ◌∷◌, [], List, ℕ, true, false, IfOk, OnOk, MatchOption, MatchResult};
+ghost use Rattle.std.specs.Option.{option_map};
 ghost use Rattle.ld_model.specs.Tree as model;
 ghost use Rattle.ld_model.specs.Tree.{Pairs, array, object, trees_of, members_of};
 ghost use Rattle.ld_model.specs.CompactText.{compact};
 ghost use Rattle.ld_model.specs.Keys.{default_graph};
-ghost use Rattle.ld_model.specs.Flatten.{has_more, nodes_of, flatten};
+ghost use Rattle.ld_model.specs.Flatten.{graph_of, has_more, nodes_of, flatten};
 ghost use Rattle.ld_model.specs.NodeMap.{generate};
-ghost use Rattle.ld_model.specs.Plain.{are_plain_items};
+ghost use Rattle.ld_model.specs.Plain.{is_plain, are_plain_items};
 ghost use Rattle.ld_json.specs.View.{view, members_view};
 ghost use Rattle.ld_json.specs.Read.{reading, reads};
-ghost use Rattle.ld_run.specs.Out.{Out, flat, plain_items_of, is_bytes};
+ghost use Rattle.ld_run.specs.Out.{Out, flat};
 ghost use Rattle.ld_run.specs.Stops.{IsStopOf};
 
 use crate::plain::is_plain;
@@ -44,7 +45,15 @@ pub(crate) fn flattened_text(alloc: Global, bytes: Vec<u8>) -> Result<Vec<u8>, S
 {
     let items = plain_items(alloc, bytes)?;
     let nodes = flattened(alloc, items)?;
-    let mut text = text_of(alloc, &Tree::Items(nodes))?;
+    let text = line_of(alloc, &Tree::Items(nodes))?;
+    Ok(text)
+}
+
+/// The compact text of a tree, with a line feed.
+fn line_of(alloc: Global, tree: &Tree) -> Result<Vec<u8>, AllocError>
+    ensures { IfOk result (λ v. v.items ≡ compact (view tree.now) ++ 10 ∷ []) }
+{
+    let mut text = text_of(alloc, tree)?;
     text.push(b'\n')?;
     Ok(text)
 }
@@ -55,12 +64,30 @@ fn plain_items(alloc: Global, bytes: Vec<u8>) -> Result<Trees, Stop>
         (λ stop. IsStopOf stop (flat bytes.items)) }
 {
     let tree = read(alloc, bytes.as_slice())?;
-    if !is_plain(&tree) {
-        return Err(Stop::Refused(Refusal::NotBuilt));
+    match items_of(tree) {
+        Some(items) => Ok(items),
+        None => Err(Stop::Refused(Refusal::NotBuilt)),
     }
+}
+
+/// The items of a document that is plain.
+fn items_of(tree: Tree) -> Option<Trees>
+    ensures { MatchOption result (is_plain (view tree) ≡ false)
+        (λ items. (view tree ≡ array (trees_of items)) × (are_plain_items items ≡ true)) }
+{
+    if is_plain(&tree) {
+        array_items(tree)
+    } else {
+        None
+    }
+}
+
+fn array_items(tree: Tree) -> Option<Trees>
+    ensures { MatchOption result (is_plain (view tree) ≡ false) (λ items. view tree ≡ array (trees_of items)) }
+{
     match tree {
-        Tree::Items(items) => Ok(items),
-        _ => Err(Stop::Refused(Refusal::NotBuilt)),
+        Tree::Items(items) => Some(items),
+        _ => None,
     }
 }
 
@@ -93,9 +120,18 @@ fn flatten(alloc: Global, map: NodeMap) -> Result<Trees, AllocError>
     ensures { IfOk result (λ nodes. nodes ≡ flatten map.graphs) }
 {
     let NodeMap { mut graphs } = map;
-    match graphs.take("@default") {
-        Some(Tree::Map(graph)) => nodes_of(alloc, graph),
-        _ => Ok(Trees::new(alloc)),
+    let graph = graph_of(alloc, graphs.take("@default"));
+    let nodes = nodes_of(alloc, graph)?;
+    Ok(nodes)
+}
+
+/// The nodes of a graph; none where there is no such graph.
+fn graph_of(alloc: Global, graph: Option<Tree>) -> Members
+    ensures { result ≡ graph_of (option_map view graph) }
+{
+    match graph {
+        Some(Tree::Map(nodes)) => nodes,
+        _ => Members::new(alloc),
     }
 }
 
@@ -105,11 +141,20 @@ fn nodes_of(alloc: Global, graph: Members) -> Result<Trees, AllocError>
 {
     let mut nodes = Trees::new(alloc);
     for (_, node) in graph.into_vec() {
-        if has_more(&node) {
-            nodes.push(node)?;
-        }
+        add_node(&mut nodes, node)?;
     }
     Ok(nodes)
+}
+
+/// Appends a node, unless it has nothing but its id.
+fn add_node(nodes: &mut Trees, node: Tree) -> Result<(), AllocError>
+    ensures { OnOk result ((id : List ℕ) → nodes.new ≡ nodes.old ++ nodes_of ((id, view node) ∷ [])) }
+{
+    if !has_more(&node) {
+        return Ok(());
+    }
+    nodes.push(node)?;
+    Ok(())
 }
 
 /// Whether a node has more than its id.

@@ -4,7 +4,9 @@ ghost use Rattle.std.specs.Io.KnownBytes.{IsAtEnd};
 ghost use Rattle.ld_io.specs.Faults.{Rose};
 ghost use Rattle.ld_run.specs.Out.{Out, words_of, is_order, due};
 ghost use Rattle.ld_run.specs.Stops.{status_of_stop, IsDueStop, CountsStop};
-ghost use Rattle.ld_run.specs.Promise.{sunk, IsDone, IsRefused, SaysLine, WritesFront, OutStays, HasRisen, SaysFront, IsDueStatus};
+ghost use Rattle.ld_run.specs.Promise.{sunk, IsDone, IsRefused, SaysLine, WritesFront, OutStays, HasRisen, SaysFront, IsDueStatus, Said, Wrote};
+ghost use Rattle.ld_io.specs.Sinks.{AppendsFront};
+ghost use Rattle.ld_run.specs.Lines.{line_of};
 
 use crate::document::{Stop, flattened_text};
 use crate::status::Status;
@@ -119,7 +121,7 @@ fn status_of(stop: Stop) -> Status
 
 /// Says why nothing is written.
 fn say<E: Sink>(status: Status, err: &mut E) -> Status
-    ensures said { MatchSaid result status (sunk E.held E.finished E.faults err.old err.new) }
+    ensures said { Said result status (sunk E.held E.finished E.faults err.old err.new) }
     ensures front { AppendsFront (E.held err.old) (E.held err.new) (line_of status) }
 {
     match write_and_finish(err, status.line().as_bytes()) {
@@ -130,7 +132,8 @@ fn say<E: Sink>(status: Status, err: &mut E) -> Status
 
 /// Writes the due bytes, or says that they couldn't be written.
 fn write_text<K: Sink, E: Sink>(bytes: &[u8], out: &mut K, err: &mut E) -> Status
-    ensures { result ≡ result }
+    ensures { Wrote result bytes.now (sunk K.held K.finished K.faults out.old out.new)
+        (sunk E.held E.finished E.faults err.old err.new) (err.new ≡ err.old) }
 {
     match write_and_finish(out, bytes) {
         Ok(()) => Status::Done,

@@ -1,0 +1,3 @@
+pub mod PlainDocument
+pub mod Nodes
+pub mod PlainLemmas
