@@ -1,5 +1,5 @@
 -- The line and the number of each status.
-use Rattle.std.specs.Prelude.{ℕ, ℤ, pos, List, [], codes}
+use Rattle.std.specs.Prelude.{ℕ, List, [], codes}
 use Rattle.ld_run.specs.declared.status.Refusal.TheVariants.{Syntax, NotBuilt}
 use Rattle.ld_run.specs.declared.status.Status.{Status}
 use Rattle.ld_run.specs.declared.status.Status.TheVariants.{Done, Refused, Usage, ReadFault, WriteFault, TooLarge, OutOfMemory}
@@ -16,11 +16,11 @@ line_of TooLarge = codes "error: input too large\n"
 line_of OutOfMemory = codes "error: out of memory\n"
 
 -- The exit status.
-abbrev pub number_of : Status → ℤ
-number_of Done = pos 0
-number_of (Refused r) = pos 1
-number_of Usage = pos 2
-number_of ReadFault = pos 3
-number_of WriteFault = pos 5
-number_of TooLarge = pos 6
-number_of OutOfMemory = pos 7
+abbrev pub number_of : Status → ℕ
+number_of Done = 0
+number_of (Refused r) = 1
+number_of Usage = 2
+number_of ReadFault = 3
+number_of WriteFault = 5
+number_of TooLarge = 6
+number_of OutOfMemory = 7

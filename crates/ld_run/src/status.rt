@@ -32,7 +32,7 @@ pub enum Status {
 
 impl Status {
     /// The exit status of the program.
-    pub fn number(self) -> i32
+    pub fn number(self) -> u8
         ensures { result ≡ number_of self }
     {
         match self {
