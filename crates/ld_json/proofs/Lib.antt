@@ -1,3 +1,3 @@
 pub mod Searches
 pub mod ViewLemmas
-pub mod ValueLemmas
+pub mod ReadValues

@@ -1,14 +1,14 @@
 -- Laws of the lists that trees are made of.
 use Rattle.std.proofs.Common.{◌≡◌, ℕ, zero, suc, ◌+◌, ◌-◌, ◌<◌, ◌≤◌, ◌&&◌, List, [], ◌∷◌, ◌++◌, length, get_or, take, drop, insert, set, refl, ap, ap₂, ◌∙◌, sym, subst, arith, true, false, Ok, Err, Some, None, Ordering, Less, Equal, Greater, Bool, take-append-drop, drop-cons, add-one}
 use Rattle.std.proofs.lemmas.List.{map-append, length-map}
-use Rattle.std.specs.Prelude.{sum_by, map, remove, slice_get}
+use Rattle.std.specs.Prelude.{sum_by, remove, slice_get}
 use Rattle.std.proofs.lemmas.List.Sums.{sum_by-cons, sum_by_more_le}
 use Rattle.std.specs.List.{AllByRecursion}
 use Rattle.std.specs.List.Sorted.{IsStrictlySortedBy}
 use Rattle.std.proofs.lemmas.Map.{NonePasses, lookup-none}
-use Rattle.std.specs.Map.{keys_of, values_of, lookup, remove_entry, set_value}
+use Rattle.std.specs.Map.{keys_of, values_of, remove_entry, set_value}
 use Rattle.std.specs.BTreeMap.{is_at, insert_entry}
-use Rattle.std.specs.Ordering.{is_lt, is_le, match_ordering}
+use Rattle.std.specs.Ordering.{is_lt, is_le, match_ordering, ordering_reverse}
 use Rattle.std.proofs.lemmas.Cmp.{nat_list_cmp_total}
 use Rattle.std_collections.specs.Layout.BTreeMap.{seek, one_further}
 use Rattle.std_collections.specs.Layout.Columns.{set_value_at}
@@ -197,9 +197,17 @@ member_is_lighter self members ms i m is same within at =
     rw (is, ← same) (subst (λ (x : List ℕ × Tree). weight (view x.1) < 1 + members_weight (members_of (members_view ms))) (sym at) (omega arith))
 
 -- Where members ascend, those ahead of a place come before its key.
-pub first_before : (xs : model.Pairs) (k : List ℕ) (m : List ℕ × model.Tree) (ns : model.Pairs) → AllByRecursion (λ y. byte_order k y ≡ Less) (keys_of (xs ++ m ∷ ns)) → byte_order k m.0 ≡ Less
+first_before : (xs : model.Pairs) (k : List ℕ) (m : List ℕ × model.Tree) (ns : model.Pairs) → AllByRecursion (λ y. byte_order k y ≡ Less) (keys_of (xs ++ m ∷ ns)) → byte_order k m.0 ≡ Less
 first_before [] k m ns all = all.0
 first_before (x ∷ xs) k m ns all = first_before xs k m ns all.1
+
+-- A member whose key comes after all others goes behind them.
+pub insert_entry-behind : (ms : model.Pairs) (m : List ℕ × model.Tree) (ns : model.Pairs) → AreAscending (ms ++ m ∷ ns) → insert_entry byte_order ms m.0 m.1 ≡ ms ++ m ∷ []
+unfolding IsStrictlySortedBy
+insert_entry-behind [] m ns sorted = refl
+insert_entry-behind (l ∷ ms) m ns sorted =
+    let above : byte_order m.0 l.0 ≡ Greater = nat_list_cmp_total.antisymm m.0 l.0 ∙ ap ordering_reverse (first_before ms l.0 m ns sorted.0) in
+    rw above (ap (λ xs. l ∷ xs) (insert_entry-behind ms m ns sorted.1))
 
 before_place : (ms : model.Pairs) (m : List ℕ × model.Tree) (ns : model.Pairs) → AreAscending (ms ++ m ∷ ns) → AreBefore ms m.0
 unfolding IsStrictlySortedBy

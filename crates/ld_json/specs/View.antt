@@ -1,5 +1,5 @@
 -- The tree that a value of the crate stands for.
-use Rattle.std.specs.Prelude.{ℕ, List, [], ◌∷◌, map}
+use Rattle.std.specs.Prelude.{ℕ, List, map}
 use Rattle.ld_model.specs.Tree as model
 use Rattle.ld_model.specs.Tree.{null, truth, whole, one_one, text, array, object, trees_of, members_of, trees_weight, members_weight}
 use Rattle.ld_json.specs.declared.value.Tree.{Tree}

@@ -17,3 +17,6 @@ pub use reading::{ReadRefusal, read_tree};
 pub use string::Text;
 pub use value::{Members, Tree, Trees};
 pub use writing::text_of;
+
+#[cfg(test)]
+mod tests;

@@ -11,7 +11,7 @@ use Rattle.std.proofs.lemmas.Map.{lookup-none}
 use Rattle.std.proofs.lemmas.Map.Entries.{none_below_head}
 use Rattle.ld_model.specs.Tree.{Tree, Pairs, object, null, members_of, member_list, member_list-members_of, member_at, byte_order, put, AreAscending}
 use Rattle.ld_model.specs.NodeMap.{new_node, node_at, node_or_new, with_node, with_node_by, with_entries, changed}
-use Rattle.ld_json.proofs.ViewLemmas.{changes_nothing, first_before}
+use Rattle.ld_json.proofs.ViewLemmas.{changes_nothing, insert_entry-behind}
 use Rattle.node_ops.specs.Graph.{node_view, nodes_view}
 
 abbrev pub Entries : Type 0
@@ -107,15 +107,8 @@ changed-missing id property f es new missing is =
     let node : node_at id (nodes_view es) ≡ new_node id = ap (node_or_new id) at in
     ap (λ ms. insert_entry byte_order (nodes_view es) id (as_node ms)) (is ∙ ap (with_entries property f) (sym node))
 
--- One turn over the nodes: a node behind the others is put last.
-put_last : (done : Pairs) (m : List ℕ × Tree) (more : Pairs) → AreAscending (done ++ m ∷ more) → insert_entry byte_order done m.0 m.1 ≡ done ++ m ∷ []
-unfolding IsStrictlySortedBy
-put_last [] m more sorted = refl
-put_last (d ∷ done) m more sorted =
-    let above : byte_order m.0 d.0 ≡ Greater = nat_list_cmp_total.antisymm m.0 d.0 ∙ ap ordering_reverse (first_before done d.0 m more sorted.0) in
-    rw above (ap (λ l. d ∷ l) (put_last done m more sorted.1))
-
+-- The nodes so far, with the next one put behind them.
 pub put_behind : (done new : Pairs) (e : String Global × Pairs) (more all : Entries) → IsStrictlySortedBy string_cmp (keys_of all) → done ++ nodes_view (e ∷ more) ≡ nodes_view all → new ≡ insert_entry byte_order done (string_bytes e.0) (as_node e.1) → new ++ nodes_view more ≡ nodes_view all
 put_behind done new e more all sorted left is =
     let whole : AreAscending (done ++ node_view e ∷ nodes_view more) = subst AreAscending (sym left) (ascending_nodes all sorted) in
-    ap (λ l. l ++ nodes_view more) (is ∙ put_last done (node_view e) (nodes_view more) whole) ∙ append_assoc done (node_view e ∷ []) (nodes_view more) ∙ left
+    ap (λ l. l ++ nodes_view more) (is ∙ insert_entry-behind done (node_view e) (nodes_view more) whole) ∙ append_assoc done (node_view e ∷ []) (nodes_view more) ∙ left

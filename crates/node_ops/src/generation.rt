@@ -172,3 +172,6 @@ fn ensure_target(alloc: Global, graph: &mut Graph, entry: &Tree) -> Result<(), A
         _ => Ok(()),
     }
 }
+
+#[cfg(test)]
+mod tests;

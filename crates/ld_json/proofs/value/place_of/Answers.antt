@@ -1,10 +1,9 @@
-use Rattle.std.proofs.Common.{◌≡◌, [], ap, sym, ◌∙◌, subst, rules, of_calls}
+use Rattle.std.proofs.Common.{[], sym, ◌∙◌, subst, rules, of_calls}
 use Rattle.std.proofs.lemmas.Fn.{always_returns_same}
 use Rattle.std.specs.List.Sorted.{IsStrictlySortedBy}
 use Rattle.ld_json.specs.declared.value.Tree.TheVariants.{Null}
 use Rattle.ld_model.specs.Tree.{byte_order}
-use Rattle.ld_json.specs.View.{members_view}
-use Rattle.ld_json.proofs.Searches.{seek-past, seek-search}
+use Rattle.ld_json.proofs.Searches.{seek-search}
 use Rattle.ld_json.proofs.ViewLemmas.{seek-members_view, keys_of-members_view, behind}
 use Rattle.ld_json.proofs.value.place_of.Goals as goal
 

@@ -1,7 +1,5 @@
-use Rattle.std.proofs.Common.{◌≡◌, ℕ, List, Ok, Err, Some, ap, sym, ◌∙◌, arith, rules}
+use Rattle.std.proofs.Common.{◌≡◌, ℕ, List, Ok, Err, Some, ap, sym, ◌∙◌, arith}
 use Rattle.std.proofs.lemmas.Grind.{common_steps}
-use Rattle.std.specs.BTreeMap.{is_at}
-use Rattle.std.specs.Map.{remove_entry}
 use Rattle.std_collections.specs.Layout.BTreeMap.{seek}
 use Rattle.ld_model.specs.Tree.{byte_order, member_at}
 use Rattle.ld_json.specs.declared.value.Tree.{Tree}

@@ -1,4 +1,4 @@
-use Rattle.std.proofs.Common.{◌≡◌, Ok, Err, ap, sym, ◌∙◌, arith, rules}
+use Rattle.std.proofs.Common.{◌≡◌, Ok, Err, arith}
 use Rattle.std.proofs.lemmas.Grind.{common_steps}
 use Rattle.std_collections.specs.Layout.BTreeMap.{seek}
 use Rattle.ld_model.specs.Tree.{byte_order}

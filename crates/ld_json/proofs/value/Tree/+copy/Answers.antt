@@ -1,5 +1,4 @@
-use Rattle.std.proofs.Common.{◌≡◌, ap, refl, arith, rules, sym}
-use Rattle.std.proofs.lemmas.Grind.{common_steps}
+use Rattle.std.proofs.Common.{ap, rules}
 use Rattle.ld_json.specs.View.{view}
 use Rattle.ld_json.proofs.ViewLemmas.{item_is_lighter, member_is_lighter, before_index}
 use Rattle.ld_json.proofs.value.Tree.+copy.Goals as goal

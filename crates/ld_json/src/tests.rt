@@ -1,0 +1,212 @@
+use super::*;
+use std::alloc::{AllocError, Global};
+use std::cmp::Ordering;
+use std::test::Fail;
+
+// What a text reads as, written back.
+fn rewritten(alloc: Global, bytes: &[u8]) -> Result<Vec<u8>, ReadRefusal> {
+    let tree = read_tree(alloc, bytes)?;
+    Ok(text_of(alloc, &tree)?)
+}
+
+#[test]
+fn a_text_reads_and_writes_back_or_is_refused(rt: HostRuntime) -> Result<(), Fail> {
+    let plain = br#"[{"@id":"http://e/a","http://e/p":[{"@value":"v"}]}]"#.as_slice();
+    let syntax = Err(ReadRefusal::Syntax);
+    let not_built = Err(ReadRefusal::NotBuilt);
+    for (name, text, want) in [
+        ("a node", plain, Ok(plain)),
+        ("white space", b" [ true ,\r\n\tnull ] ", Ok(b"[true,null]")),
+        (
+            "unordered keys",
+            br#"{"b":{},"a":false,"":[]}"#,
+            Ok(br#"{"":[],"a":false,"b":{}}"#),
+        ),
+        (
+            "a repeated key",
+            br#"{"a":"x","b":"y","a":"z"}"#,
+            Ok(br#"{"a":"z","b":"y"}"#),
+        ),
+        (
+            "short escapes",
+            br#""\b\t\n\f\r\"\\\/""#,
+            Ok(br#""\b\t\n\f\r\"\\/""#),
+        ),
+        (
+            "long escapes",
+            br#""\u0000\u001F\u007f\u00e9""#,
+            Ok(b"\"\\u0000\\u001f\x7f\xc3\xa9\""),
+        ),
+        (
+            "a pair of surrogates",
+            br#""\ud834\udd1e""#,
+            Ok(b"\"\xf0\x9d\x84\x9e\""),
+        ),
+        ("a digit in a string", br#"["1"]"#, Ok(br#"["1"]"#)),
+        ("a digit in a key", br#"{"1":"a"}"#, Ok(br#"{"1":"a"}"#)),
+        (
+            "a digit after an escaped quote",
+            br#"["\"1"]"#,
+            Ok(br#"["\"1"]"#),
+        ),
+        (
+            "a number after an escaped backslash",
+            br#"["\\",1]"#,
+            not_built,
+        ),
+        ("a number", b"[1]", not_built),
+        ("a negative number", b"-0.5e3", not_built),
+        ("no end after a number", b"[1", syntax),
+        ("nothing", b"", syntax),
+        ("no end", b"[", syntax),
+        ("a second value", b"[] []", syntax),
+        ("a comma too many", b"[true,]", syntax),
+        ("half a pair of surrogates", br#""\ud834""#, syntax),
+        ("no UTF-8", b"\"\xff\"", syntax),
+        ("a byte order mark", b"\xef\xbb\xbf[]", syntax),
+    ] {
+        match rewritten(rt.alloc(), text) {
+            Ok(got) => assert_eq!(rt; Ok(got.as_slice()), want, "{name}"),
+            Err(refusal) => assert_eq!(rt; Err(refusal), want, "{name}"),
+        }
+    }
+    Ok(())
+}
+
+// Arrays in arrays, this many deep.
+fn nested(alloc: Global, depth: usize) -> Result<Vec<u8>, AllocError> {
+    let mut text = Vec::new(alloc);
+    text.resize(depth, b'[')?;
+    for _ in 0..depth {
+        text.push(b']')?;
+    }
+    Ok(text)
+}
+
+#[test]
+fn a_text_may_be_127_deep(rt: HostRuntime) -> Result<(), Fail> {
+    let deep = nested(rt.alloc(), 127)?;
+    assert_eq!(rt; rewritten(rt.alloc(), &deep), Ok(nested(rt.alloc(), 127)?));
+    let deeper = nested(rt.alloc(), 128)?;
+    assert_eq!(rt; rewritten(rt.alloc(), &deeper), Err(ReadRefusal::Syntax));
+    Ok(())
+}
+
+#[test]
+fn numbers_are_written_in_decimal(rt: HostRuntime) -> Result<(), Fail> {
+    for (tree, want) in [
+        (Tree::Whole(0), "0"),
+        (Tree::Whole(-9_007_199_254_740_992), "-9007199254740992"),
+        (Tree::OneOne, "1.1"),
+    ] {
+        let text = text_of(rt.alloc(), &tree)?;
+        assert_eq!(rt; text.as_slice(), want.as_bytes());
+    }
+    Ok(())
+}
+
+#[test]
+fn trees_are_equal_where_all_in_them_is(rt: HostRuntime) -> Result<(), Fail> {
+    for (name, a, b, same) in [
+        ("null", "null", "null", true),
+        ("truth values", "true", "false", false),
+        ("kinds", "null", "false", false),
+        ("empty kinds", "[]", "{}", false),
+        ("equal texts", r#""a""#, r#""a""#, true),
+        ("texts", r#""a""#, r#""b""#, false),
+        ("lengths of arrays", "[]", "[null]", false),
+        ("values", "[[]]", "[null]", false),
+        ("equal arrays", "[null,[]]", "[null,[]]", true),
+        ("numbers of members", "{}", r#"{"a":[]}"#, false),
+        ("keys", r#"{"a":[]}"#, r#"{"b":[]}"#, false),
+        ("values of a key", r#"{"a":[]}"#, r#"{"a":{}}"#, false),
+        (
+            "members in two orders",
+            r#"{"a":[],"b":{}}"#,
+            r#"{"b":{},"a":[]}"#,
+            true,
+        ),
+    ] {
+        let copy = read_tree(rt.alloc(), a.as_bytes())?.copy(rt.alloc())?;
+        let other = read_tree(rt.alloc(), b.as_bytes())?;
+        assert_eq!(rt; copy.same(&other), same, "{name}");
+    }
+    assert!(rt; Tree::Whole(1).same(&Tree::Whole(1)));
+    assert!(rt; !Tree::Whole(1).same(&Tree::Whole(-1)));
+    assert!(rt; Tree::OneOne.same(&Tree::OneOne));
+    Ok(())
+}
+
+#[test]
+fn members_stay_in_the_order_of_their_keys(rt: HostRuntime) -> Result<(), Fail> {
+    let alloc = rt.alloc();
+    let mut members = Members::new(alloc);
+    for (key, value) in [("b", "1"), ("d", "2"), ("a", "3"), ("b", "4"), ("c", "5")] {
+        let value = Tree::Str(Text::new(alloc, value)?);
+        members.set(Text::new(alloc, key)?, value)?;
+    }
+    members.put(alloc, "bb", Tree::OneOne)?;
+    members.put(alloc, "d", Tree::Whole(6))?;
+    assert_eq!(rt; members.len(), 5);
+    assert!(rt; matches!(members.get("d"), Some(Tree::Whole(6))));
+    assert!(rt; members.get("dd").is_none());
+    assert!(rt; matches!(members.at(2), Some((key, Tree::OneOne)) if key.as_str() == "bb"));
+    assert!(rt; members.at(5).is_none());
+    assert!(rt; matches!(members.take("bb"), Some(Tree::OneOne)));
+    assert!(rt; members.take("e").is_none());
+    assert!(rt; matches!(members.remove("d"), Some(Tree::Whole(6))));
+    assert!(rt; members.remove("d").is_none());
+    assert_eq!(rt; members.as_slice().len(), 4);
+    let text = text_of(alloc, &Tree::Map(members))?;
+    assert_eq!(rt;
+        text.as_slice(),
+        br#"{"a":"3","b":"4","bb":null,"c":"5"}"#.as_slice()
+    );
+    Ok(())
+}
+
+#[test]
+fn lists_and_places_keep_what_is_pushed(rt: HostRuntime) -> Result<(), Fail> {
+    let alloc = rt.alloc();
+    let mut trees = Trees::new(alloc);
+    assert!(rt; trees.is_empty());
+    trees.push(Tree::Null)?;
+    trees.push(Tree::Truth(true))?;
+    assert!(rt; !trees.is_empty() && trees.len() == 2 && trees.as_slice().len() == 2);
+    assert!(rt; matches!(trees.get(1), Some(Tree::Truth(true))));
+    assert!(rt; trees.get(2).is_none());
+    assert_eq!(rt; trees.into_vec().len(), 2);
+
+    let mut members = Members::new(alloc);
+    members.append(Text::new(alloc, "a")?, Tree::Null)?;
+    assert_eq!(rt; members.into_vec().len(), 1);
+
+    let mut place = Place::new(alloc);
+    place.push(Step::Key(Text::new(alloc, "a")?))?;
+    place.push(Step::Item(7))?;
+    assert_eq!(rt; place.len(), 2);
+    assert!(rt; matches!(place.get(0), Some(Step::Key(key)) if key.as_str() == "a"));
+    assert!(rt; matches!(place.as_slice(), [_, Step::Item(7)]));
+    assert!(rt; place.get(2).is_none());
+    Ok(())
+}
+
+#[test]
+fn texts_are_compared_by_their_bytes(rt: HostRuntime) -> Result<(), Fail> {
+    for (text, other, order, blank) in [
+        ("", "", Ordering::Equal, false),
+        ("_", "", Ordering::Greater, false),
+        ("_:", "_:b0", Ordering::Less, true),
+        ("_:b0", "_:b0", Ordering::Equal, true),
+        ("a_:", "a", Ordering::Greater, false),
+        ("é", "z", Ordering::Greater, false),
+        ("\u{ffff}", "\u{10000}", Ordering::Less, false),
+    ] {
+        let text = Text::new(rt.alloc(), text)?.copy(rt.alloc())?;
+        assert_eq!(rt; text.compare(other), order, "{text}", text = text.as_str());
+        assert_eq!(rt; text.is_blank(), blank, "{text}", text = text.as_str());
+        let same = Text::from_string(text.copy(rt.alloc())?.into_string());
+        assert_eq!(rt; same.as_str(), text.as_str());
+    }
+    Ok(())
+}

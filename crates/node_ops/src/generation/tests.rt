@@ -1,0 +1,80 @@
+use super::*;
+use ld_json::{read_tree, text_of};
+use std::process::Abort;
+use std::test::Fail;
+
+// The nodes that the items of a document make, as text.
+fn nodes_text<R: Abort>(rt: &R, alloc: Global, document: &str) -> Result<Vec<u8>, Fail> {
+    let tree = read_tree(alloc, document.as_bytes())?;
+    let mut graph = BTreeMap::new(alloc);
+    match &tree {
+        Tree::Items(items) => add_items(alloc, &mut graph, items.as_slice())?,
+        _ => assert!(rt; false, "no array: {document}"),
+    }
+    let nodes = nodes_of(alloc, graph)?;
+    Ok(text_of(alloc, &Tree::Map(nodes))?)
+}
+
+#[test]
+fn nodes_gather_what_the_items_say_of_them(rt: HostRuntime) -> Result<(), Fail> {
+    for (name, document, want) in [
+        ("no items", "[]", "{}"),
+        (
+            "ids given in descending order",
+            r#"[{"@id":"e:c"},{"@id":"e:b"},{"@id":"e:a"}]"#,
+            r#"{"e:a":{"@id":"e:a"},"e:b":{"@id":"e:b"},"e:c":{"@id":"e:c"}}"#,
+        ),
+        (
+            "two items of one id",
+            r#"[{"@id":"e:a","e:q":[{"@value":"y"}]},{"@id":"e:a","e:p":[{"@value":"x"}],"e:q":[{"@value":"z"}]}]"#,
+            r#"{"e:a":{"@id":"e:a","e:p":[{"@value":"x"}],"e:q":[{"@value":"y"},{"@value":"z"}]}}"#,
+        ),
+        (
+            "an equal value in one item and in two",
+            r#"[{"@id":"e:a","e:p":[{"@value":"x"},{"@value":"x"}]},{"@id":"e:a","e:p":[{"@value":"x"}]}]"#,
+            r#"{"e:a":{"@id":"e:a","e:p":[{"@value":"x"}]}}"#,
+        ),
+        (
+            "an equal reference in one item and in two",
+            r#"[{"@id":"e:b","e:p":[{"@id":"e:a"},{"@id":"e:a"}]},{"@id":"e:b","e:p":[{"@id":"e:a"}]}]"#,
+            r#"{"e:a":{"@id":"e:a"},"e:b":{"@id":"e:b","e:p":[{"@id":"e:a"}]}}"#,
+        ),
+        (
+            "a value and a reference of one text",
+            r#"[{"@id":"e:b","e:p":[{"@value":"e:b"},{"@id":"e:b"}]}]"#,
+            r#"{"e:b":{"@id":"e:b","e:p":[{"@value":"e:b"},{"@id":"e:b"}]}}"#,
+        ),
+        (
+            "an equal value of another property",
+            r#"[{"@id":"e:a","e:p":[{"@value":"x"}],"e:q":[{"@value":"x"}]}]"#,
+            r#"{"e:a":{"@id":"e:a","e:p":[{"@value":"x"}],"e:q":[{"@value":"x"}]}}"#,
+        ),
+        (
+            "an empty array",
+            r#"[{"@id":"e:a","e:p":[]},{"@id":"e:a","e:p":[]}]"#,
+            r#"{"e:a":{"@id":"e:a","e:p":[]}}"#,
+        ),
+        (
+            "entries in the order of the items",
+            r#"[{"@id":"e:a","e:p":[{"@value":"z"},{"@value":"y"}]},{"@id":"e:a","e:p":[{"@value":"x"}]}]"#,
+            r#"{"e:a":{"@id":"e:a","e:p":[{"@value":"z"},{"@value":"y"},{"@value":"x"}]}}"#,
+        ),
+    ] {
+        let got = nodes_text(&rt, rt.alloc(), document)?;
+        assert_eq!(rt; got.as_slice(), want.as_bytes(), "{name}");
+    }
+    Ok(())
+}
+
+#[test]
+fn a_node_map_has_the_default_graph_even_of_no_items(rt: HostRuntime) -> Result<(), Fail> {
+    match node_map(rt.alloc(), &Trees::new(rt.alloc())) {
+        Ok((map, issued)) => {
+            let text = text_of(rt.alloc(), &Tree::Map(map.graphs))?;
+            assert_eq!(rt; text.as_slice(), br#"{"@default":{}}"#.as_slice());
+            assert_eq!(rt; issued, 0);
+        }
+        Err(_) => assert!(rt; false, "memory was refused"),
+    }
+    Ok(())
+}
