@@ -14,16 +14,16 @@ use Rattle.iri_ref.specs.Resolve.{marked, resolved, scheme_text, target_of, text
 use Rattle.iri_ref.proofs.Walk.{Plain, plain_from}
 
 -- the part behind a mark, where the mark is there and where it is not
-part_found : (test : ℕ → Bool) (bs : List ℕ) → position_or_len test bs < length bs → part_after test bs ≡ Some (after_first test bs)
+pub part_found : (test : ℕ → Bool) (bs : List ℕ) → position_or_len test bs < length bs → part_after test bs ≡ Some (after_first test bs)
 part_found test bs lt = ap (λ b. option_map (λ i. drop (i + 1) bs) (cond b (Some (position_or_len test bs)) None)) (lt-ltb (position_or_len test bs) (length bs) lt)
 
-part_absent : (test : ℕ → Bool) (bs : List ℕ) → length bs ≤ position_or_len test bs → part_after test bs ≡ None
+pub part_absent : (test : ℕ → Bool) (bs : List ℕ) → length bs ≤ position_or_len test bs → part_after test bs ≡ None
 part_absent test bs le = ap (λ b. option_map (λ i. drop (i + 1) bs) (cond b (Some (position_or_len test bs)) None)) (le-ltb (position_or_len test bs) (length bs) le)
 
-front_found : (test : ℕ → Bool) (bs : List ℕ) → position_or_len test bs < length bs → part_before test bs ≡ Some (before_first test bs)
+pub front_found : (test : ℕ → Bool) (bs : List ℕ) → position_or_len test bs < length bs → part_before test bs ≡ Some (before_first test bs)
 front_found test bs lt = ap (λ b. option_map (λ i. take i bs) (cond b (Some (position_or_len test bs)) None)) (lt-ltb (position_or_len test bs) (length bs) lt)
 
-front_absent : (test : ℕ → Bool) (bs : List ℕ) → length bs ≤ position_or_len test bs → part_before test bs ≡ None
+pub front_absent : (test : ℕ → Bool) (bs : List ℕ) → length bs ≤ position_or_len test bs → part_before test bs ≡ None
 front_absent test bs le = ap (λ b. option_map (λ i. take i bs) (cond b (Some (position_or_len test bs)) None)) (le-ltb (position_or_len test bs) (length bs) le)
 
 cut_there : (c : ℕ) (bs : List ℕ) → position_or_len (is c) bs < length bs → before_first (is c) bs ++ c ∷ after_first (is c) bs ≡ bs
@@ -76,7 +76,7 @@ text_of-parts_of text =
     ∙ marked_joined 35 text
 
 -- both parts of a test
-both : (a b : Bool) → (a && b) ≡ true → (a ≡ true) × (b ≡ true)
+pub both : (a b : Bool) → (a && b) ≡ true → (a ≡ true) × (b ≡ true)
 both true b h = (refl, h)
 both false b h = absurd cc
 

@@ -1,5 +1,5 @@
 -- The five parts of a reference, as bytes (RFC 3986, section 3 and appendix B).
-use Rattle.std.specs.Prelude.{ℕ, ◌+◌, ◌==◌, Bool, false, ◌&&◌, ◌||◌, not, if◌then◌else◌, List, [], ◌∷◌, Option, Some, None, is_some, nat_eq, nat_lt, nat_le, codes, drop, take, position}
+use Rattle.std.specs.Prelude.{◌≡◌, ℕ, ◌+◌, ◌==◌, Bool, false, ◌&&◌, ◌||◌, not, if◌then◌else◌, List, [], ◌∷◌, Option, Some, None, IfSome, is_some, nat_eq, nat_lt, nat_le, codes, drop, take, position}
 use Rattle.std.specs.Option.{option_map, option_and_then, option_map_or, option_copied}
 use Rattle.std.specs.List.{list_all, list_any, before_first, after_first, position_or_len, starts_with}
 use Rattle.std.specs.Str.{bytes_eq}
@@ -106,3 +106,14 @@ is_iri_byte b = nat_lt 32 b && not (is 60 b || is 62 b || is 34 b || is 123 b ||
 -- the form of an IRI, and only bytes that may stand in one
 abbrev pub is_well_formed : List ℕ → Bool
 is_well_formed text = has_scheme text && list_all is_iri_byte text
+
+-- no byte passes
+abbrev pub lacks : (ℕ → Bool) → List ℕ → Type 0
+lacks test bs = list_any test bs ≡ false
+
+-- no part holds a mark that ends it
+pub record EndAtMarks (p : IriParts) : Type 0 where
+  pub scheme : IfSome p.scheme (λ s. lacks colon s × lacks slash s × lacks question_mark s × lacks number_sign s)
+  pub authority : IfSome p.authority (λ a. lacks slash a × lacks question_mark a × lacks number_sign a)
+  pub path : lacks question_mark p.path × lacks number_sign p.path
+  pub query : IfSome p.query (lacks number_sign)

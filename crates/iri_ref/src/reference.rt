@@ -2,7 +2,7 @@
 ghost use Rattle.std.specs.Prelude.{◌≡◌, ◌<◌, drop};
 ghost use Rattle.std.specs.Option.{option_copied};
 ghost use Rattle.std.specs.List.{before_first, list_all, list_any, position_or_len};
-ghost use Rattle.iri_ref.specs.Parts.{bytes_of, parts_of, part_after, is, is_run, is_letter, is_scheme_byte, is_scheme, is_iri_byte, scheme_in, behind_scheme, authority_in, path_in, has_scheme as has_scheme_text, is_well_formed as is_well_formed_text};
+ghost use Rattle.iri_ref.specs.Parts.{EndAtMarks, bytes_of, parts_of, part_after, is, is_run, is_letter, is_scheme_byte, is_scheme, is_iri_byte, scheme_in, behind_scheme, authority_in, path_in, has_scheme as has_scheme_text, is_well_formed as is_well_formed_text};
 ghost use Rattle.ld_model.specs.Iri as model;
 ghost use Rattle.iri_ref.specs.Resolve.{text_of};
 
@@ -24,6 +24,7 @@ pub struct Parts<'a> {
 /// The parts of a reference, as the regular expression of RFC 3986, appendix B, finds them.
 pub fn split(text: &str) -> Parts<'_>
     ensures parts { bytes_of result ≡ parts_of text.now }
+    ensures marks { EndAtMarks (bytes_of result) }
     ensures nothing_lost { text_of (bytes_of result) ≡ text.now }
 {
     let (text, fragment) = cut(text, '#');
