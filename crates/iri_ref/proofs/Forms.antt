@@ -6,7 +6,7 @@ use Rattle.std.proofs.lemmas.Iterator.Adapters.{position_from-zero}
 use Rattle.std.specs.Option.{option_map, option_map_or}
 use Rattle.std.specs.List.{list_all, position_from}
 use Rattle.ld_model.specs.Iri as model
-use Rattle.iri_ref.specs.Parts.{colon, is_scheme_byte, is_scheme, is_letter, part_before, has_scheme}
+use Rattle.iri_ref.specs.Parts.{colon, is_scheme_byte, is_scheme, is_letter, has_scheme}
 
 and-false : (b : Bool) → (b && false) ≡ false
 and-false true = refl

@@ -1,12 +1,12 @@
 -- Laws of the definitions: the parts put together give the text, and an IRI is its own target.
-use Rattle.std.proofs.Common.{◌≡◌, ℕ, ◌+◌, ◌<◌, ◌≤◌, Bool, true, false, ◌&&◌, ◌||◌, not, List, [], ◌∷◌, ◌++◌, Option, Some, None, cond, codes, drop, take, length, get_or, nat_eq, nat_le, suc, zero, refl, sym, ap, ◌∙◌, subst, ⊎_elim, append_assoc, arith}
+use Rattle.std.proofs.Common.{◌≡◌, ℕ, ◌+◌, ◌<◌, ◌≤◌, Bool, true, false, ◌&&◌, ◌||◌, not, List, [], ◌∷◌, ◌++◌, Option, Some, None, cond, codes, drop, take, length, get_or, nat_eq, nat_le, suc, zero, refl, sym, ap, ◌∙◌, ⊎_elim, append_assoc, arith}
 use Rattle.std.specs.List.{after_first, before_first, list_all, list_any, position_or_len, starts_with}
 use Rattle.std.specs.Option.{is_some, option_and_then, option_map, option_map_or}
 use Rattle.std.specs.Str.{bytes_eq}
-use Rattle.std.proofs.lemmas.Bool.{cases_lt, le-ltb, lt-ltb, ne_eqb, or_from}
+use Rattle.std.proofs.lemmas.Bool.{cases_lt, le-ltb, lt-ltb, ne_eqb}
 use Rattle.std.proofs.lemmas.Bool.Decides.{Decides-eqb}
 use Rattle.std.proofs.lemmas.List.{append-nil, get_or-take, length-take-le, take_all, take-append-drop}
-use Rattle.std.proofs.lemmas.List.Sums.{fails_before_first, passes_at_first, position_or_len_is, prefix_len-le-length, split_at_first}
+use Rattle.std.proofs.lemmas.List.Sums.{passes_at_first, position_or_len_is, prefix_len-le-length, split_at_first}
 use Rattle.std.proofs.lemmas.Slice.Eq.{bytes_eq-Decides}
 use Rattle.iri_ref.specs.Parts.{IriParts, authority_in, behind_scheme, colon, has_scheme, is, is_letter, is_run, is_scheme, is_scheme_byte, number_sign, part_after, part_before, parts_of, path_in, question_mark, run_only, scheme_in, slash}
 use Rattle.iri_ref.specs.Dots.{remove_dots}
@@ -14,16 +14,16 @@ use Rattle.iri_ref.specs.Resolve.{marked, resolved, scheme_text, target_of, text
 use Rattle.iri_ref.proofs.Walk.{Plain, plain_from}
 
 -- the part behind a mark, where the mark is there and where it is not
-part_found : (test : ℕ → Bool) (bs : List ℕ) → position_or_len test bs < length bs → part_after test bs ≡ Some (after_first test bs)
+pub part_found : (test : ℕ → Bool) (bs : List ℕ) → position_or_len test bs < length bs → part_after test bs ≡ Some (after_first test bs)
 part_found test bs lt = ap (λ b. option_map (λ i. drop (i + 1) bs) (cond b (Some (position_or_len test bs)) None)) (lt-ltb (position_or_len test bs) (length bs) lt)
 
-part_absent : (test : ℕ → Bool) (bs : List ℕ) → length bs ≤ position_or_len test bs → part_after test bs ≡ None
+pub part_absent : (test : ℕ → Bool) (bs : List ℕ) → length bs ≤ position_or_len test bs → part_after test bs ≡ None
 part_absent test bs le = ap (λ b. option_map (λ i. drop (i + 1) bs) (cond b (Some (position_or_len test bs)) None)) (le-ltb (position_or_len test bs) (length bs) le)
 
-front_found : (test : ℕ → Bool) (bs : List ℕ) → position_or_len test bs < length bs → part_before test bs ≡ Some (before_first test bs)
+pub front_found : (test : ℕ → Bool) (bs : List ℕ) → position_or_len test bs < length bs → part_before test bs ≡ Some (before_first test bs)
 front_found test bs lt = ap (λ b. option_map (λ i. take i bs) (cond b (Some (position_or_len test bs)) None)) (lt-ltb (position_or_len test bs) (length bs) lt)
 
-front_absent : (test : ℕ → Bool) (bs : List ℕ) → length bs ≤ position_or_len test bs → part_before test bs ≡ None
+pub front_absent : (test : ℕ → Bool) (bs : List ℕ) → length bs ≤ position_or_len test bs → part_before test bs ≡ None
 front_absent test bs le = ap (λ b. option_map (λ i. take i bs) (cond b (Some (position_or_len test bs)) None)) (le-ltb (position_or_len test bs) (length bs) le)
 
 cut_there : (c : ℕ) (bs : List ℕ) → position_or_len (is c) bs < length bs → before_first (is c) bs ++ c ∷ after_first (is c) bs ≡ bs
@@ -76,7 +76,7 @@ text_of-parts_of text =
     ∙ marked_joined 35 text
 
 -- both parts of a test
-both : (a b : Bool) → (a && b) ≡ true → (a ≡ true) × (b ≡ true)
+pub both : (a b : Bool) → (a && b) ≡ true → (a ≡ true) × (b ≡ true)
 both true b h = (refl, h)
 both false b h = absurd cc
 

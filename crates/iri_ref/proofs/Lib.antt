@@ -1,4 +1,5 @@
 pub mod Laws
+pub mod Marks
 pub mod Slashes
 pub mod Walk
 pub mod Forms

@@ -1,6 +1,6 @@
 -- A path that grows in one buffer is the path of the segments that are kept.
 use Rattle.std.proofs.Common.{◌≡◌, ℕ, ◌+◌, ◌-◌, ◌<◌, ◌≤◌, Bool, true, false, ◌||◌, List, [], ◌∷◌, ◌++◌, Bor, Option, Some, None, MatchOption, cond, drop, drop-cons, get_or, take, suc, unwrap_or, ◌≢◌, fold, not, reverse, length, refl, sym, ap, ◌∙◌, ⊎_elim, subst, append_assoc, arith}
-use Rattle.std.specs.List.{slice_range, list_any, slice_split, onto_first, join_with_byte, before_first, after_first, position_or_len}
+use Rattle.std.specs.List.{slice_range, list_any, onto_first, join_with_byte, before_first, after_first, position_or_len}
 use Rattle.std.proofs.lemmas.Bool.{cases_lt, cond_both, ne_eqb, le-ltb, lt-ltb, or_parts, or_from}
 use Rattle.std.proofs.lemmas.List.{get_or-drop, length-drop, reverse-append, take_all, take_more, take-append-drop}
 use Rattle.std.proofs.lemmas.List.Splits.{slice_split_first, slice_split_none}

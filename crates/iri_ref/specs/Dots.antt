@@ -8,12 +8,15 @@ use Rattle.iri_ref.specs.Parts.{slash}
 abbrev pub segments_of : List ℕ → List (List ℕ)
 segments_of path = slice_split slash path
 
+-- a segment that is one dot
 abbrev pub is_dot : List ℕ → Bool
 is_dot segment = bytes_eq segment (codes ".")
 
+-- a segment that is two dots
 abbrev pub is_dot_dot : List ℕ → Bool
 is_dot_dot segment = bytes_eq segment (codes "..")
 
+-- a segment that is one dot or two
 abbrev pub is_dots : List ℕ → Bool
 is_dots segment = is_dot segment || is_dot_dot segment
 
@@ -38,6 +41,7 @@ without_last (s ∷ t ∷ ss) = t ∷ ss
 abbrev pub placed : List (List ℕ) → List ℕ → List (List ℕ)
 placed kept s = if is_dot s then kept else if is_dot_dot s then without_last kept else s ∷ kept
 
+-- what is kept of the segments, each put behind those before it
 abbrev pub kept_of : List (List ℕ) → List (List ℕ)
 kept_of [] = []
 kept_of (s ∷ ss) = reverse (fold placed (s ∷ []) ss)

@@ -1,10 +1,11 @@
 -- The five parts of a reference, as bytes (RFC 3986, section 3 and appendix B).
-use Rattle.std.specs.Prelude.{ℕ, ◌+◌, ◌==◌, Bool, true, false, ◌&&◌, ◌||◌, not, if◌then◌else◌, List, [], ◌∷◌, ◌++◌, Option, Some, None, is_some, nat_eq, nat_lt, nat_le, codes, drop, take, position}
+use Rattle.std.specs.Prelude.{◌≡◌, ℕ, ◌+◌, ◌==◌, Bool, false, ◌&&◌, ◌||◌, not, if◌then◌else◌, List, [], ◌∷◌, Option, Some, None, IfSome, is_some, nat_eq, nat_lt, nat_le, codes, drop, take, position}
 use Rattle.std.specs.Option.{option_map, option_and_then, option_map_or, option_copied}
 use Rattle.std.specs.List.{list_all, list_any, before_first, after_first, position_or_len, starts_with}
 use Rattle.std.specs.Str.{bytes_eq}
 use Rattle.iri_ref.specs.declared.reference.Parts.{Parts}
 
+-- the scheme, authority, path, query and fragment; an absent part is no empty part
 pub record IriParts : Type 0 where
   pub scheme : Option (List ℕ)
   pub authority : Option (List ℕ)
@@ -12,7 +13,7 @@ pub record IriParts : Type 0 where
   pub query : Option (List ℕ)
   pub fragment : Option (List ℕ)
 
--- the bytes of the parts
+-- the parts that the code holds, as bytes
 abbrev pub bytes_of : Parts → IriParts
 bytes_of p = record { scheme = option_copied p.scheme; authority = option_copied p.authority; path = p.path.now; query = option_copied p.query; fragment = option_copied p.fragment }
 
@@ -20,15 +21,19 @@ bytes_of p = record { scheme = option_copied p.scheme; authority = option_copied
 abbrev pub is : ℕ → ℕ → Bool
 is c b = b == c
 
+-- the colon, which ends a scheme
 abbrev pub colon : ℕ → Bool
 colon = is 58
 
+-- the slash, which ends an authority and a segment of a path
 abbrev pub slash : ℕ → Bool
 slash = is 47
 
+-- the question mark, which begins a query
 abbrev pub question_mark : ℕ → Bool
 question_mark = is 63
 
+-- the number sign, which begins a fragment
 abbrev pub number_sign : ℕ → Bool
 number_sign = is 35
 
@@ -44,6 +49,7 @@ part_after test bs = option_map (λ i. drop (i + 1) bs) (position test bs)
 abbrev pub is_run : List ℕ → Bool
 is_run bs = not (bytes_eq bs []) && not (list_any slash bs)
 
+-- the bytes, where they may be a scheme
 abbrev pub run_only : List ℕ → Option (List ℕ)
 run_only bs = if is_run bs then Some bs else None
 
@@ -97,5 +103,17 @@ has_scheme text = option_map_or is_scheme (part_before colon text) false
 abbrev pub is_iri_byte : ℕ → Bool
 is_iri_byte b = nat_lt 32 b && not (is 60 b || is 62 b || is 34 b || is 123 b || is 125 b || is 124 b || is 94 b || is 96 b || is 92 b)
 
+-- the form of an IRI, and only bytes that may stand in one
 abbrev pub is_well_formed : List ℕ → Bool
 is_well_formed text = has_scheme text && list_all is_iri_byte text
+
+-- no byte passes
+abbrev pub lacks : (ℕ → Bool) → List ℕ → Type 0
+lacks test bs = list_any test bs ≡ false
+
+-- no part holds a mark that ends it
+pub record EndAtMarks (p : IriParts) : Type 0 where
+  pub scheme : IfSome p.scheme (λ s. lacks colon s × lacks slash s × lacks question_mark s × lacks number_sign s)
+  pub authority : IfSome p.authority (λ a. lacks slash a × lacks question_mark a × lacks number_sign a)
+  pub path : lacks question_mark p.path × lacks number_sign p.path
+  pub query : IfSome p.query (lacks number_sign)

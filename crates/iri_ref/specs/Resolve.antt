@@ -1,5 +1,5 @@
 -- A reference resolved against a base (RFC 3986, sections 5.2.2, strict, 5.2.3 and 5.3).
-use Rattle.std.specs.Prelude.{ℕ, Bool, ◌&&◌, ◌||◌, if◌then◌else◌, List, [], ◌∷◌, ◌++◌, Option, Some, None, is_some, nat_eq, codes}
+use Rattle.std.specs.Prelude.{ℕ, Bool, ◌&&◌, if◌then◌else◌, List, [], ◌∷◌, ◌++◌, Option, Some, None, is_some, nat_eq, codes}
 use Rattle.std.specs.Option.{option_or}
 use Rattle.std.specs.List.{list_any, starts_with}
 use Rattle.std.specs.Str.{bytes_eq}
@@ -15,6 +15,7 @@ directory_of (b ∷ bs) = if list_any slash (b ∷ bs) then b ∷ directory_of b
 abbrev pub merged : IriParts → List ℕ → List ℕ
 merged base path = (if is_some base.authority && bytes_eq base.path [] then codes "/" else directory_of base.path) ++ path
 
+-- a path that begins with a slash
 abbrev pub is_absolute : List ℕ → Bool
 is_absolute path = starts_with nat_eq path (codes "/")
 

@@ -2,12 +2,12 @@
 ghost use Rattle.std.specs.Prelude.{◌≡◌, ◌<◌, drop};
 ghost use Rattle.std.specs.Option.{option_copied};
 ghost use Rattle.std.specs.List.{before_first, list_all, list_any, position_or_len};
-ghost use Rattle.iri_ref.specs.Parts.{bytes_of, parts_of, part_after, is, is_run, is_letter, is_scheme_byte, is_scheme, is_iri_byte, scheme_in, behind_scheme, authority_in, path_in, has_scheme as has_scheme_text, is_well_formed as is_well_formed_text};
+ghost use Rattle.iri_ref.specs.Parts.{EndAtMarks, bytes_of, parts_of, part_after, is, is_run, is_letter, is_scheme_byte, is_scheme, is_iri_byte, scheme_in, behind_scheme, authority_in, path_in, has_scheme as has_scheme_text, is_well_formed as is_well_formed_text};
 ghost use Rattle.ld_model.specs.Iri as model;
 ghost use Rattle.iri_ref.specs.Resolve.{text_of};
 
 /// The parts of a reference (RFC 3986, section 3). A part that is absent is no empty part.
-#[derive(Clone, Copy, Debug)]
+#[derive(Clone, Copy, Debug, PartialEq, Eq)]
 pub struct Parts<'a> {
     /// What stands before the first `:`, where no slash stands before that.
     pub scheme: Option<&'a str>,
@@ -24,6 +24,7 @@ pub struct Parts<'a> {
 /// The parts of a reference, as the regular expression of RFC 3986, appendix B, finds them.
 pub fn split(text: &str) -> Parts<'_>
     ensures parts { bytes_of result ≡ parts_of text.now }
+    ensures marks { EndAtMarks (bytes_of result) }
     ensures nothing_lost { text_of (bytes_of result) ≡ text.now }
 {
     let (text, fragment) = cut(text, '#');
@@ -162,4 +163,37 @@ fn is_iri_byte(byte: u8) -> bool
         byte,
         0..=b' ' | b'<' | b'>' | b'"' | b'{' | b'}' | b'|' | b'^' | b'`' | b'\\'
     )
+}
+
+#[cfg(test)]
+mod tests {
+    use super::*;
+
+    #[test]
+    fn the_parts_of_the_example_of_rfc_3986(rt: HostRuntime) {
+        let parts = split("http://www.ics.uci.edu/pub/ietf/uri/#Related");
+        assert_eq!(rt; parts.scheme, Some("http"));
+        assert_eq!(rt; parts.authority, Some("www.ics.uci.edu"));
+        assert_eq!(rt; parts.path, "/pub/ietf/uri/");
+        assert_eq!(rt; parts.query, None);
+        assert_eq!(rt; parts.fragment, Some("Related"));
+    }
+
+    #[test]
+    fn the_form_of_an_iri(rt: HostRuntime) {
+        let cases = [
+            ("http://e/a", true, true),
+            ("urn+1.0-b:x", true, true),
+            ("http://e/a b", true, false),
+            ("x:{y}", true, false),
+            ("1x:y", false, false),
+            ("a/b:c", false, false),
+            (":a", false, false),
+            ("a", false, false),
+        ];
+        for (text, scheme, well_formed) in cases {
+            assert_eq!(rt; has_scheme(text), scheme, "{text}");
+            assert_eq!(rt; is_well_formed(text), well_formed, "{text}");
+        }
+    }
 }

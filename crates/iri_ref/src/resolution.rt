@@ -1,8 +1,9 @@
 //! A reference resolved against a base.
-ghost use Rattle.std.specs.Prelude.{◌≡◌, ◌++◌, IfOk, IsTrue, List, ℕ, OnOk, string_bytes};
+ghost use Rattle.std.specs.Prelude.{◌≡◌, ◌++◌, IfOk, IsTrue, if◌then◌else◌, List, ℕ, OnOk, string_bytes};
 ghost use Rattle.std.specs.Option.{option_copied};
 ghost use Rattle.iri_ref.specs.Parts.{bytes_of, has_scheme};
-ghost use Rattle.iri_ref.specs.Resolve.{directory_of, marked, merged, resolved, scheme_text, target_of, text_of};
+ghost use Rattle.iri_ref.specs.Dots.{remove_dots as without_dots};
+ghost use Rattle.iri_ref.specs.Resolve.{directory_of, is_absolute, marked, merged, resolved, scheme_text, target_of, text_of};
 
 use crate::dots::remove_dots;
 use crate::reference::{Parts, split};
@@ -26,23 +27,20 @@ pub fn resolve(alloc: Global, base: &str, reference: &str) -> Result<Text, Alloc
 fn target(alloc: Global, base: &Parts, reference: &Parts) -> Result<String, AllocError>
     ensures { IfOk result (λ s. string_bytes s ≡ text_of (target_of (bytes_of base.now) (bytes_of reference.now))) }
 {
+    let fragment = reference.fragment;
     if reference.scheme.is_some() {
-        let path = remove_dots(alloc, reference.path)?;
-        return compose(
-            alloc,
-            &Parts {
-                path: path.as_str(),
-                ..*reference
-            },
-        );
+        let kept = remove_dots(alloc, reference.path)?;
+        let path = kept.as_str();
+        return compose(alloc, &Parts { path, ..*reference });
     }
     if reference.authority.is_some() {
-        let path = remove_dots(alloc, reference.path)?;
+        let kept = remove_dots(alloc, reference.path)?;
+        let (scheme, path) = (base.scheme, kept.as_str());
         return compose(
             alloc,
             &Parts {
-                scheme: base.scheme,
-                path: path.as_str(),
+                scheme,
+                path,
                 ..*reference
             },
         );
@@ -53,25 +51,32 @@ fn target(alloc: Global, base: &Parts, reference: &Parts) -> Result<String, Allo
             alloc,
             &Parts {
                 query,
-                fragment: reference.fragment,
+                fragment,
                 ..*base
             },
         );
     }
-    let path = if reference.path.starts_with('/') {
-        remove_dots(alloc, reference.path)?
-    } else {
-        remove_dots(alloc, merge(alloc, base, reference.path)?.as_str())?
-    };
+    let kept = path_behind(alloc, base, reference.path)?;
+    let (path, query) = (kept.as_str(), reference.query);
     compose(
         alloc,
         &Parts {
-            path: path.as_str(),
-            query: reference.query,
-            fragment: reference.fragment,
+            path,
+            query,
+            fragment,
             ..*base
         },
     )
+}
+
+// A path that begins with a slash alone, and another behind that of the base, both without dots.
+fn path_behind(alloc: Global, base: &Parts, path: &str) -> Result<String, AllocError>
+    ensures { IfOk result (λ s. string_bytes s ≡ without_dots (if is_absolute path.now then path.now else merged (bytes_of base.now) path.now)) }
+{
+    if path.starts_with('/') {
+        return remove_dots(alloc, path);
+    }
+    remove_dots(alloc, merge(alloc, base, path)?.as_str())
 }
 
 // A path behind the directory of the base's path (RFC 3986, section 5.2.3).
@@ -124,5 +129,93 @@ fn push_marked(text: &mut String, mark: &str, part: Option<&str>) -> Result<(), 
             text.push_str(part)
         }
         None => Ok(()),
+    }
+}
+
+#[cfg(test)]
+mod tests {
+    use super::*;
+    use std::test::Fail;
+
+    const BASE: &str = "http://a/b/c/d;p?q";
+
+    #[test]
+    fn the_normal_examples_of_rfc_3986(rt: HostRuntime) -> Result<(), Fail> {
+        let cases = [
+            ("g:h", "g:h"),
+            ("g", "http://a/b/c/g"),
+            ("./g", "http://a/b/c/g"),
+            ("g/", "http://a/b/c/g/"),
+            ("/g", "http://a/g"),
+            ("//g", "http://g"),
+            ("?y", "http://a/b/c/d;p?y"),
+            ("g?y", "http://a/b/c/g?y"),
+            ("#s", "http://a/b/c/d;p?q#s"),
+            ("g#s", "http://a/b/c/g#s"),
+            ("g?y#s", "http://a/b/c/g?y#s"),
+            (";x", "http://a/b/c/;x"),
+            ("g;x", "http://a/b/c/g;x"),
+            ("g;x?y#s", "http://a/b/c/g;x?y#s"),
+            ("", "http://a/b/c/d;p?q"),
+            (".", "http://a/b/c/"),
+            ("./", "http://a/b/c/"),
+            ("..", "http://a/b/"),
+            ("../", "http://a/b/"),
+            ("../g", "http://a/b/g"),
+            ("../..", "http://a/"),
+            ("../../", "http://a/"),
+            ("../../g", "http://a/g"),
+        ];
+        for (reference, target) in cases {
+            let resolved = resolve(rt.alloc(), BASE, reference)?;
+            assert_eq!(rt; resolved.as_str(), target, "{reference}");
+        }
+        Ok(())
+    }
+
+    #[test]
+    fn the_abnormal_examples_of_rfc_3986(rt: HostRuntime) -> Result<(), Fail> {
+        let cases = [
+            ("../../../g", "http://a/g"),
+            ("../../../../g", "http://a/g"),
+            ("/./g", "http://a/g"),
+            ("/../g", "http://a/g"),
+            ("g.", "http://a/b/c/g."),
+            (".g", "http://a/b/c/.g"),
+            ("g..", "http://a/b/c/g.."),
+            ("..g", "http://a/b/c/..g"),
+            ("./../g", "http://a/b/g"),
+            ("./g/.", "http://a/b/c/g/"),
+            ("g/./h", "http://a/b/c/g/h"),
+            ("g/../h", "http://a/b/c/h"),
+            ("g;x=1/./y", "http://a/b/c/g;x=1/y"),
+            ("g;x=1/../y", "http://a/b/c/y"),
+            ("g?y/./x", "http://a/b/c/g?y/./x"),
+            ("g?y/../x", "http://a/b/c/g?y/../x"),
+            ("g#s/./x", "http://a/b/c/g#s/./x"),
+            ("g#s/../x", "http://a/b/c/g#s/../x"),
+            ("http:g", "http:g"),
+        ];
+        for (reference, target) in cases {
+            let resolved = resolve(rt.alloc(), BASE, reference)?;
+            assert_eq!(rt; resolved.as_str(), target, "{reference}");
+        }
+        Ok(())
+    }
+
+    #[test]
+    fn other_bases_and_the_examples_of_removing_dots(rt: HostRuntime) -> Result<(), Fail> {
+        let cases = [
+            (BASE, "x:/a/b/c/./../../g", "x:/a/g"),
+            (BASE, "x:mid/content=5/../6", "x:mid/6"),
+            (BASE, "g?#", "http://a/b/c/g?#"),
+            ("http://a", "g", "http://a/g"),
+            ("http://a/b#s", "", "http://a/b"),
+        ];
+        for (base, reference, target) in cases {
+            let resolved = resolve(rt.alloc(), base, reference)?;
+            assert_eq!(rt; resolved.as_str(), target, "{reference}");
+        }
+        Ok(())
     }
 }

@@ -1,4 +1,4 @@
-use Rattle.std.proofs.Common.{◌≡◌, ap, ◌∙◌, sym, take, lit<, unwrap_or, string_bytes}
+use Rattle.std.proofs.Common.{◌≡◌, ap, ◌∙◌, take, lit<, string_bytes}
 use Rattle.std.proofs.lemmas.Str.Pattern.{rfind_char}
 use Rattle.iri_ref.proofs.Walk.{last_place}
 use Rattle.iri_ref.proofs.dots.cut_last_segment.Goals as goal

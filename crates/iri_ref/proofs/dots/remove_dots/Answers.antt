@@ -1,5 +1,5 @@
-use Rattle.std.proofs.Common.{◌≡◌, ◌∙◌, sym, ap, fold, true, not, ◌∷◌, ◌++◌, string_bytes}
-use Rattle.std.specs.Option.{is_some, option_copied}
+use Rattle.std.proofs.Common.{◌≡◌, ◌∙◌, sym, ap, fold, not, ◌∷◌, ◌++◌, string_bytes}
+use Rattle.std.specs.Option.{option_copied}
 use Rattle.std.specs.List.{before_first}
 use Rattle.iri_ref.specs.Parts.{slash}
 use Rattle.iri_ref.specs.Dots.{closed, is_dots, segments_of}

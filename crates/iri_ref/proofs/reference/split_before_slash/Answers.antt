@@ -1,4 +1,4 @@
-use Rattle.std.proofs.Common.{◌≡◌, ap, ◌∙◌, sym, take, drop, length, unwrap_or, Some, None, lit<, arith}
+use Rattle.std.proofs.Common.{◌≡◌, ap, ◌∙◌, sym, take, drop, length, Some, None, lit<, arith}
 use Rattle.std.specs.List.{position_or_len}
 use Rattle.std.proofs.lemmas.List.{drop_all, take_all}
 use Rattle.std.proofs.lemmas.Str.Pattern.{find_char}

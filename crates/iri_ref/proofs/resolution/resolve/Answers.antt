@@ -1,5 +1,5 @@
 use Rattle.iri_ref.proofs.Laws.{resolved_alone}
-use Rattle.std.proofs.Common.{◌∙◌, ap, rules}
+use Rattle.std.proofs.Common.{◌∙◌, rules}
 use Rattle.iri_ref.proofs.resolution.resolve.Goals as goal
 
 pub returns-clause-target : goal.returns-clause-target
