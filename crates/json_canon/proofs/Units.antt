@@ -44,8 +44,8 @@ after_held [] l s held after = after s held refl
 after_held (y ∷ []) l s held after = (
   λ j none. absurd (cc (none.0)),
   λ x j step. elim step as (λ _. (x ≡ y) × AlwaysYields encode_utf16_steps (λ n. n) j l) [
-    inl p ↦ (let k : x ∷ [] ≡ y ∷ [] = sym p.0 ∙ held in cc, after j p.1 p.2)
-  | inr p ↦ absurd (let k = p.0 in cc)
+    | inl p ↦ (let k : x ∷ [] ≡ y ∷ [] = sym p.0 ∙ held in cc, after j p.1 p.2)
+    | inr p ↦ absurd (let k = p.0 in cc)
   ],
 )
 after_held (y ∷ z ∷ p) l s held after = absurd (omega (arith, one_at_most (nat_lt 0 s.second) s.second, ap length held))
@@ -53,19 +53,19 @@ after_held (y ∷ z ∷ p) l s held after = absurd (omega (arith, one_at_most (n
 gives : (cs : List ℕ) (s : _) → encode_utf16_pending s ≡ [] → encodes cs ≡ encode_utf16_rest s → AlwaysYields encode_utf16_steps (λ x. x) s (flat_map encode_utf16 cs)
 gives [] s none at =
     λ x j step. elim step [
-      inl p ↦ (let k = p.0 in cc)
-    | inr p ↦ no_character p.1.0 (encode_utf16_rest j) (at ∙ p.1.1)
+      | inl p ↦ (let k = p.0 in cc)
+      | inr p ↦ no_character p.1.0 (encode_utf16_rest j) (at ∙ p.1.1)
     ]
 gives (c ∷ cs) s none at =
     let k = split c in
     rw k.is (
       λ j p. absurd (omega (arith, p.1, len_utf8_bounds c, length-encode c, simp length-append at (ap length at))),
       λ x j step. elim step as (λ _. (x ≡ k.first) × AlwaysYields encode_utf16_steps (λ n. n) j (k.rest ++ flat_map encode_utf16 cs)) [
-        inl p ↦ absurd (let h = p.0 in cc)
-      | inr p ↦
-        let same = encode_same c p.1.0 (encodes cs) (encode_utf16_rest j) (at ∙ p.1.1) in
-        let units : k.first ∷ k.rest ≡ x ∷ encode_utf16_pending j = sym k.is ∙ ap encode_utf16 same.0 ∙ p.1.2 in
-        (cc, after_held k.rest (flat_map encode_utf16 cs) j (cc) (λ t e r. gives cs t e (same.1 ∙ sym r)))
+        | inl p ↦ absurd (let h = p.0 in cc)
+        | inr p ↦
+            let same = encode_same c p.1.0 (encodes cs) (encode_utf16_rest j) (at ∙ p.1.1) in
+            let units : k.first ∷ k.rest ≡ x ∷ encode_utf16_pending j = sym k.is ∙ ap encode_utf16 same.0 ∙ p.1.2 in
+            (cc, after_held k.rest (flat_map encode_utf16 cs) j (cc) (λ t e r. gives cs t e (same.1 ∙ sym r)))
       ],
     )
 

@@ -4,6 +4,8 @@
 #![tactic(auto)]
 
 mod order;
+#[cfg(test)]
+mod tests;
 mod writing;
 
 pub use order::{less_utf16, less_utf16_orders_texts};

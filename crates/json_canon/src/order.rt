@@ -23,8 +23,7 @@ pub fn less_utf16_orders_texts()
         → comes_before a c ≡ true }
     ensures total { (a b : List ℕ) → IsUtf8 a → IsUtf8 b → a ≢ b
         → (comes_before a b ≡ true) ⊎ (comes_before b a ≡ true) }
-{
-}
+{}
 
 /// How `a` stands to `b` in the order of their UTF-16 code units.
 pub(crate) fn compare_utf16(a: &str, b: &str) -> Ordering
