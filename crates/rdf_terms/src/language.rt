@@ -10,7 +10,8 @@ pub fn is_language_tag(text: &str) -> bool
     ensures { result ≡ is_tag text.now }
 {
     match text.split_once('-') {
-        Some((first, rest)) => is_letters(first) && rest.split('-').all(|part| is_letters_or_digits(part)),
+        Some((first, rest)) => is_letters(first)
+            && rest.split('-').all(|part| is_letters_or_digits(part)),
         None => is_letters(text),
     }
 }
