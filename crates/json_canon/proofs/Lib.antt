@@ -1,0 +1,5 @@
+pub mod Units
+pub mod OrderLemmas
+pub mod Sorting
+pub mod Members
+pub mod Printing

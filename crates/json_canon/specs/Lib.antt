@@ -1,0 +1,3 @@
+pub mod Utf16
+pub mod Canonical
+pub mod Lent

@@ -1,0 +1,3 @@
+pub mod Double
+pub mod Language
+pub mod Quad
