@@ -18,14 +18,14 @@ impl Tree {
             Tree::OneOne => Ok(Tree::OneOne),
             Tree::Str(text) => Ok(Tree::Str(text.copy(alloc)?)),
             Tree::Items(trees) => {
-                let mut items = Trees::new(alloc);
+                let mut items = Trees::with_capacity(alloc, trees.len())?;
                 for tree in trees.as_slice() {
                     items.push(tree.copy(alloc)?)?;
                 }
                 Ok(Tree::Items(items))
             }
             Tree::Map(members) => {
-                let mut pairs = Members::new(alloc);
+                let mut pairs = Members::with_capacity(alloc, members.len())?;
                 for (key, tree) in members.as_slice() {
                     pairs.append(key.copy(alloc)?, tree.copy(alloc)?)?;
                 }

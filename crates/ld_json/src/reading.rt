@@ -131,7 +131,7 @@ fn tree(alloc: Global, value: Value) -> Result<Tree, AllocError>
 fn trees(alloc: Global, values: Vec<Value>) -> Result<Trees, AllocError>
     ensures { IfOk result (λ ts. ts ≡ map value_tree values.items) }
 {
-    let mut trees = Trees::new(alloc);
+    let mut trees = Trees::with_capacity(alloc, values.len())?;
     for value in values {
         trees.push(tree(alloc, value)?)?;
     }
@@ -142,7 +142,7 @@ fn trees(alloc: Global, values: Vec<Value>) -> Result<Trees, AllocError>
 fn members(alloc: Global, object: Map<String, Value>) -> Result<Members, AllocError>
     ensures { IfOk result (λ ms. ms ≡ map value_member object.entries) }
 {
-    let mut members = Members::new(alloc);
+    let mut members = Members::with_capacity(alloc, object.len())?;
     for (key, value) in object {
         members.set(Text::from_string(key), tree(alloc, value)?)?;
     }

@@ -102,6 +102,15 @@ impl Trees {
         }
     }
 
+    /// An empty list with room for that many values.
+    pub fn with_capacity(alloc: Global, capacity: usize) -> Result<Trees, AllocError>
+        ensures { IfOk result (λ ts. ts ≡ []) }
+    {
+        Ok(Trees {
+            items: Vec::with_capacity(alloc, capacity)?,
+        })
+    }
+
     /// How many values there are.
     pub fn len(&self) -> usize
         ensures { result ≡ length self.now }
@@ -156,6 +165,15 @@ impl Members {
         Members {
             pairs: Vec::new(alloc),
         }
+    }
+
+    /// An object without members, with room for that many.
+    pub fn with_capacity(alloc: Global, capacity: usize) -> Result<Members, AllocError>
+        ensures { IfOk result (λ ms. ms ≡ []) }
+    {
+        Ok(Members {
+            pairs: Vec::with_capacity(alloc, capacity)?,
+        })
     }
 
     /// How many members there are.
