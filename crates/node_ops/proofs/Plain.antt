@@ -1,5 +1,5 @@
 -- Generation over a plain document issues no label, and is the walk.
-use Rattle.std.proofs.Common.{◌≡◌, ℕ, List, [], ◌∷◌, Bool, true, false, ◌&&◌, ◌||◌, Option, Some, None, Ordering, Less, Equal, Greater, refl, sym, ap, ◌∙◌, subst}
+use Rattle.std.proofs.Common.{◌≡◌, ℕ, List, [], ◌∷◌, Bool, true, false, ◌&&◌, Option, Some, None, Ordering, Less, Equal, Greater, refl, sym, ap, ◌∙◌, subst}
 use Rattle.std.specs.Prelude.{◌==◌, if◌then◌else◌}
 use Rattle.std.specs.Option.{is_some}
 use Rattle.std.specs.Ordering.{is_eq, ordering_reverse}
@@ -8,13 +8,13 @@ use Rattle.std.proofs.lemmas.Map.Lookups.{exact_bytes}
 use Rattle.std.specs.Str.{bytes_eq}
 use Rattle.std.proofs.lemmas.Map.Text.{is_eq-slice_cmp}
 use borrow.Author.Tests.{eqb-true}
-use Rattle.ld_model.specs.Tree.{Tree, null, truth, whole, one_one, text, array, object, Trees, no_trees, tree, Members, no_members, member, Pairs, tree_list, member_list, member_at, byte_order}
+use Rattle.ld_model.specs.Tree.{Tree, text, array, object, no_members, member, Pairs, member_list, member_at, byte_order}
 use Rattle.ld_model.specs.Label.{Labels, is_blank}
 use Rattle.ld_model.specs.Iri.{has_scheme, is_letter}
-use Rattle.ld_model.specs.Keys.{id_key, value_key}
+use Rattle.ld_model.specs.Keys.{id_key}
 use Rattle.ld_model.specs.Plain.{is_iri_text, is_plain_entry, are_plain_entries, is_plain_array, is_plain_member, are_plain_members, is_plain_item, are_plain_items}
-use Rattle.ld_model.specs.NodeMap.{State, named, reference, target, entry_into, entry_by, entries_into, entries_of, changed, added, with_node, property_into, named_property_into, properties_into, name_of, named_item_into, item_into, items_into}
-use Rattle.node_ops.specs.Walk.{id_in, walk_to, walk_target, walk_entries, walk_property, walk_properties, walk_node, walk_item, walk_items}
+use Rattle.ld_model.specs.NodeMap.{State, named, entry_into, entries_into, entries_of, changed, added, with_node, property_into, named_property_into, properties_into, name_of, named_item_into, item_into, items_into}
+use Rattle.node_ops.specs.Walk.{id_in, walk_target, walk_entries, walk_property, walk_properties, walk_node, walk_item, walk_items}
 
 abbrev state : Pairs → Labels → State
 state nodes labels = record { nodes = nodes; labels = labels }

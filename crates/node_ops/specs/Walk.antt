@@ -1,7 +1,7 @@
 -- Generation over a document in which no name is blank: the labels stay, and so they are left out.
 use Rattle.std.specs.Prelude.{ℕ, List, [], ◌∷◌, if◌then◌else◌, Option, Some, None}
 use Rattle.std.specs.Str.{bytes_eq}
-use Rattle.ld_model.specs.Tree.{Tree, text, array, object, Pairs, tree_list, member_list, member_at}
+use Rattle.ld_model.specs.Tree.{Tree, text, object, Pairs, member_list, member_at}
 use Rattle.ld_model.specs.Keys.{id_key}
 use Rattle.ld_model.specs.NodeMap.{with_node, changed, added, entries_of}
 

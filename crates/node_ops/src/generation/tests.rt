@@ -68,13 +68,10 @@ fn nodes_gather_what_the_items_say_of_them(rt: HostRuntime) -> Result<(), Fail> 
 
 #[test]
 fn a_node_map_has_the_default_graph_even_of_no_items(rt: HostRuntime) -> Result<(), Fail> {
-    match node_map(rt.alloc(), &Trees::new(rt.alloc())) {
-        Ok((map, issued)) => {
-            let text = text_of(rt.alloc(), &Tree::Map(map.graphs))?;
-            assert_eq!(rt; text.as_slice(), br#"{"@default":{}}"#.as_slice());
-            assert_eq!(rt; issued, 0);
-        }
-        Err(_) => assert!(rt; false, "memory was refused"),
-    }
+    let items = Trees::new(rt.alloc());
+    let (map, issued) = node_map(rt.alloc(), &items).map_err(|_| AllocError)?;
+    let text = text_of(rt.alloc(), &Tree::Map(map.graphs))?;
+    assert_eq!(rt; text.as_slice(), br#"{"@default":{}}"#.as_slice());
+    assert_eq!(rt; issued, 0);
     Ok(())
 }

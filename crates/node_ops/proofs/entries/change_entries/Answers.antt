@@ -1,6 +1,6 @@
-use Rattle.std.proofs.Common.{◌≡◌, List, sym, ap, ◌∙◌}
+use Rattle.std.proofs.Common.{List, ap, ◌∙◌}
 use Rattle.std.specs.BTreeMap.{insert_entry}
-use Rattle.ld_model.specs.NodeMap.{with_entries, entries_of}
+use Rattle.ld_model.specs.NodeMap.{with_entries}
 use Rattle.ld_model.specs.Tree as model
 use Rattle.ld_model.specs.Tree.{put, array, trees_of, byte_order, member_at}
 use Rattle.node_ops.specs.Change.{change_of}

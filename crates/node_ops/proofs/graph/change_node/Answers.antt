@@ -1,10 +1,10 @@
-use Rattle.std.proofs.Common.{◌≡◌, sym, ap, ◌∙◌}
+use Rattle.std.proofs.Common.{sym, ap, ◌∙◌}
 use Rattle.std.specs.Option.{option_copied_mut}
-use Rattle.ld_model.specs.Tree.{Pairs, object, members_of, put}
+use Rattle.ld_model.specs.Tree.{object, members_of, put}
 use Rattle.ld_model.specs.NodeMap.{with_entries}
 use Rattle.node_ops.specs.Change.{change_of}
 use Rattle.node_ops.specs.Graph.{nodes_view}
-use Rattle.node_ops.proofs.GraphLemmas.{Entries, changed-there, changed-missing}
+use Rattle.node_ops.proofs.GraphLemmas.{changed-there, changed-missing}
 use Rattle.node_ops.proofs.graph.change_node.Goals as goal
 
 pub returns-in-Some : goal.returns-in-Some

@@ -1,4 +1,4 @@
-use Rattle.std.proofs.Common.{◌≡◌, sym, ap, ◌∙◌}
+use Rattle.std.proofs.Common.{sym, ap, ◌∙◌}
 use Rattle.ld_model.specs.Tree.{object, members_of, put}
 use Rattle.node_ops.specs.Graph.{nodes_view}
 use Rattle.node_ops.proofs.GraphLemmas.{with_node-there, with_node-missing}

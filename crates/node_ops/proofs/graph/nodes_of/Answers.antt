@@ -1,7 +1,7 @@
-use Rattle.std.proofs.Common.{◌≡◌, ◌++◌, ◌∷◌, String, Global, sym, ap, ◌∙◌}
+use Rattle.std.proofs.Common.{◌≡◌, ◌++◌, ◌∷◌, String, Global}
 use Rattle.std.proofs.lemmas.Map.Iter.{rest_more}
 use Rattle.ld_model.specs.Tree.{Pairs}
-use Rattle.node_ops.specs.Graph.{node_view, nodes_view}
+use Rattle.node_ops.specs.Graph.{nodes_view}
 use Rattle.node_ops.proofs.GraphLemmas.{put_behind}
 use Rattle.node_ops.proofs.graph.nodes_of.Goals as goal
 

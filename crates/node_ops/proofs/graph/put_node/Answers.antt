@@ -1,4 +1,4 @@
-use Rattle.std.proofs.Common.{◌≡◌, ap, ◌∙◌}
+use Rattle.std.proofs.Common.{ap, ◌∙◌}
 use Rattle.std.specs.BTreeMap.{insert_entry}
 use Rattle.ld_model.specs.Tree.{object, members_of, byte_order, put}
 use Rattle.node_ops.specs.Graph.{nodes_view}
