@@ -13,14 +13,14 @@ use Rattle.ld_json.specs.declared.reading.Stand.TheVariants.{Outside, Inside, Es
 use Rattle.ld_json.specs.declared.reading.ReadRefusal.{ReadRefusal}
 use Rattle.ld_json.specs.declared.reading.ReadRefusal.TheVariants.{Syntax, NotBuilt, OutOfMemory}
 
--- A whole number of at most 2^53 in magnitude, or else the mark 1.1.
+-- The tree of a number: itself where it is whole and at most 2^53 in magnitude, and else the mark 1.1.
 abbrev pub number_tree : json.Num → Tree
 number_tree (json.unsigned n) = if nat_le n (2 ^ 53) then whole (pos n) else one_one
 number_tree (json.negative (pos n)) = if nat_le n (2 ^ 53) then whole (pos n) else one_one
 number_tree (json.negative (negsuc n)) = if nat_le (n + 1) (2 ^ 53) then whole (negsuc n) else one_one
 number_tree (json.float x) = one_one
 
--- The tree of what was read.
+-- The trees of a value that `serde_json` reads, of the values of an array, and of the members of an object.
 abbrev mutual
   pub tree_of : json.Data → Tree
   tree_of json.null = null
@@ -38,7 +38,8 @@ abbrev mutual
   members_in json.no_members = no_members
   members_in (json.member k d ms) = member k (tree_of d) (members_in ms)
 
--- How the next byte stands to the strings of a text.
+-- How the byte after this one stands to the strings of a text: a quote begins and ends one, and a backslash in one
+-- escapes the byte after it (RFC 8259, section 7).
 abbrev pub next : Stand → ℕ → Stand
 next Outside x = if x == 34 then Inside else Outside
 next Inside x = if x == 34 then Outside else (if x == 92 then Escaped else Inside)
@@ -60,15 +61,17 @@ pub data Reading : Type 0 where
   no_json : Reading
   not_built : Reading
 
+-- What a text reads as, given whether it has a digit outside strings, and what `serde_json` reads of it.
 abbrev pub reading_of : Bool → Option json.Data → Reading
 reading_of digits None = no_json
 reading_of true (Some d) = not_built
 reading_of false (Some d) = reads (tree_of d)
 
+-- What bytes read as. JSON text is in UTF-8 (RFC 8259, section 8.1).
 unfoldable pub reading : List ℕ → Reading
 reading bytes = if is_utf8 bytes then reading_of (has_digit Outside bytes) (read bytes) else no_json
 
--- When each refusal may come.
+-- When each refusal may come: `OutOfMemory` at any time.
 abbrev pub Refuses : ReadRefusal → Reading → Type 0
 Refuses Syntax r = r ≡ no_json
 Refuses NotBuilt r = r ≡ not_built
@@ -78,5 +81,6 @@ Refuses OutOfMemory r = ⊤
 abbrev pub value_tree : Value → Tree
 value_tree v = tree_of (value_view v)
 
+-- The key and the tree of an entry of `serde_json`'s map.
 abbrev pub value_member : String Global × Value → List ℕ × Tree
 value_member e = (string_bytes e.0, value_tree e.1)

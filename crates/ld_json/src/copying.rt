@@ -1,13 +1,12 @@
-// Equal trees, and how many values a tree has.
-ghost use Rattle.std.specs.Prelude.{◌≡◌, ◌-◌, ◌^◌, min, IfOk};
-ghost use Rattle.ld_model.specs.Tree.{weight as tree_weight};
+// Copies of trees.
+ghost use Rattle.std.specs.Prelude.{◌≡◌, IfOk};
 ghost use Rattle.ld_json.specs.View.{view};
 
 use crate::value::{Members, Tree, Trees};
 use std::alloc::{AllocError, Global};
 
 impl Tree {
-    /// An equal tree.
+    /// An equal tree, in memory of its own.
     pub fn copy(&self, alloc: Global) -> Result<Tree, AllocError>
         ensures { IfOk result (λ t. view t ≡ view self.now) }
     {

@@ -1,6 +1,5 @@
 // Reading a text.
 ghost use Rattle.std.specs.Prelude.{◌≡◌, IfOk, MatchResult, map};
-ghost use Rattle.ld_model.specs.Tree.{tree_list};
 ghost use Rattle.serde_json.specs.View.{number_view};
 ghost use Rattle.ld_json.specs.View.{view};
 ghost use Rattle.ld_json.specs.Read.{reading, reads, Refuses, has_digit, is_digit_at, next, number_tree, value_tree, value_member};
@@ -31,11 +30,12 @@ impl From<AllocError> for ReadRefusal {
     }
 }
 
-/// The tree that a JSON text reads as. Of members with one key the last one stays.
+/// The tree that a JSON text (RFC 8259) reads as. Of members with one key the last one stays.
 ///
 /// # Errors
 ///
-/// `Syntax` exactly where the bytes are no JSON text; else `NotBuilt` exactly where a digit stands outside strings.
+/// `Syntax` where the bytes are no JSON text; else `NotBuilt` where a digit stands outside strings. Neither comes in any
+/// other case. `OutOfMemory` where memory is refused.
 pub fn read_tree(alloc: Global, bytes: &[u8]) -> Result<Tree, ReadRefusal>
     ensures { MatchResult result (λ t. reading bytes.now ≡ reads (view t))
         (λ e. Refuses e (reading bytes.now)) }
@@ -52,10 +52,7 @@ pub fn read_tree(alloc: Global, bytes: &[u8]) -> Result<Tree, ReadRefusal>
     if has_digit_outside(bytes) {
         return Err(ReadRefusal::NotBuilt);
     }
-    match tree(alloc, value) {
-        Ok(tree) => Ok(tree),
-        Err(_) => Err(ReadRefusal::OutOfMemory),
-    }
+    Ok(tree(alloc, value)?)
 }
 
 /// How a byte of a JSON text stands to the strings in it.
@@ -149,11 +146,14 @@ fn members(alloc: Global, object: Map<String, Value>) -> Result<Members, AllocEr
     Ok(members)
 }
 
+/// The greatest magnitude of a whole number that is read as such: 2^53.
+const GREATEST_WHOLE: i64 = 9_007_199_254_740_992;
+
 fn number_of(number: &Number) -> Tree
     ensures { view result ≡ number_tree (number_view number.now) }
 {
     match number.as_i64() {
-        Some(whole) => if whole >= -9_007_199_254_740_992 && whole <= 9_007_199_254_740_992 {
+        Some(whole) => if whole >= -GREATEST_WHOLE && whole <= GREATEST_WHOLE {
             Tree::Whole(whole)
         } else {
             Tree::OneOne

@@ -1,12 +1,12 @@
 // Trees, and the two lists that they are made of.
-ghost use Rattle.std.specs.Prelude.{◌≡◌, ◌+◌, ◌-◌, ◌^◌, ◌<◌, List, [], ◌∷◌, ◌++◌, length, min, IfOk, OnOk, OnErr, IsSome, IfSome, Some, slice_get};
+ghost use Rattle.std.specs.Prelude.{◌≡◌, [], ◌∷◌, ◌++◌, length, IfOk, OnOk, OnErr, slice_get};
 ghost use Rattle.std.specs.Option.{option_map};
 ghost use Rattle.std.specs.Map.{remove_entry, set_value};
 ghost use Rattle.std.specs.BTreeMap.{is_at, insert_entry};
 ghost use Rattle.std_collections.specs.Layout.BTreeMap.{seek};
 ghost use Rattle.ld_model.specs.Tree as model;
 ghost use Rattle.ld_model.specs.Tree.{AreAscending, AreBefore, member_at, byte_order};
-ghost use Rattle.ld_json.specs.View.{view, trees_view, member_view, members_view};
+ghost use Rattle.ld_json.specs.View.{view, trees_view, members_view};
 
 use crate::string::Text;
 use std::alloc::{AllocError, Global};
@@ -218,7 +218,8 @@ impl Members {
         pairs
     }
 
-    /// Puts a member behind all others, in constant time. Its key has to be greater than theirs.
+    /// Puts a member behind all others, in constant time. Its key has to be greater than theirs. Where memory is
+    /// refused the members stay as they were.
     pub fn append(&mut self, key: Text, tree: Tree) -> Result<(), AllocError>
         requires { AreBefore self.old key }
         ensures ok { OnOk result (self.new ≡ self.old ++ (key, view tree) ∷ []) }

@@ -12,6 +12,6 @@ pub returns-then-has_digit_outside : goal.returns-then-has_digit_outside
 returns-then-has_digit_outside c =
     reading-utf8 c.args.bytes.now (Some (value_view c.in-Ok.value)) true c.in-Ok.ensures.ok.0 (grind (arith, common_steps)) c.in-Ok.ensures.ok.1
 
-pub returns-in-Ok-tree : goal.returns-in-Ok-tree
-returns-in-Ok-tree c =
-    reading-utf8 c.args.bytes.now (Some (value_view c.in-Ok.value)) false c.in-Ok.ensures.ok.0 (grind (arith, common_steps)) c.in-Ok.ensures.ok.1 ∙ ap reads (sym c.in-Ok-tree.ensures)
+pub returns : goal.returns
+returns c =
+    reading-utf8 c.args.bytes.now (Some (value_view c.in-Ok.value)) false c.in-Ok.ensures.ok.0 (grind (arith, common_steps)) c.in-Ok.ensures.ok.1 ∙ ap reads (sym c.in_ok-tree.ensures)
