@@ -15,9 +15,11 @@ view (Str s) = text s
 view (Items ts) = array (trees_of ts)
 view (Map ms) = object (members_of ms)
 
+-- The trees of some values.
 abbrev pub trees_view : List Tree → List model.Tree
 trees_view ts = map view ts
 
+-- The key of a member with its tree, and those of some members.
 abbrev pub member_view : List ℕ × Tree → List ℕ × model.Tree
 member_view m = (m.0, view m.1)
 
