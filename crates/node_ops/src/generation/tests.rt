@@ -1,3 +1,6 @@
+ghost use Rattle.std.specs.Prelude.{◌≡◌, true, IfOk};
+ghost use Rattle.ld_model.specs.Plain.{are_plain_items};
+
 use super::*;
 use ld_json::{read_tree, text_of};
 use std::process::Abort;
@@ -66,12 +69,29 @@ fn nodes_gather_what_the_items_say_of_them(rt: HostRuntime) -> Result<(), Fail> 
     Ok(())
 }
 
+// A document of one node with one value.
+fn small_document(alloc: Global) -> Result<Trees, AllocError>
+    ensures { IfOk result (λ items. are_plain_items items ≡ true) }
+{
+    let mut value = Members::new(alloc);
+    value.put(alloc, "@value", Tree::Str(Text::new(alloc, "x")?))?;
+    let mut values = Trees::new(alloc);
+    values.push(Tree::Map(value))?;
+    let mut node = Members::new(alloc);
+    node.put(alloc, "@id", Tree::Str(Text::new(alloc, "e:a")?))?;
+    node.put(alloc, "e:p", Tree::Items(values))?;
+    let mut items = Trees::new(alloc);
+    items.push(Tree::Map(node))?;
+    Ok(items)
+}
+
 #[test]
-fn a_node_map_has_the_default_graph_even_of_no_items(rt: HostRuntime) -> Result<(), Fail> {
-    let items = Trees::new(rt.alloc());
+fn a_node_map_has_one_graph_and_no_labels(rt: HostRuntime) -> Result<(), Fail> {
+    let items = small_document(rt.alloc())?;
     let (map, issued) = node_map(rt.alloc(), &items).map_err(|_| AllocError)?;
     let text = text_of(rt.alloc(), &Tree::Map(map.graphs))?;
-    assert_eq!(rt; text.as_slice(), br#"{"@default":{}}"#.as_slice());
+    let want = r#"{"@default":{"e:a":{"@id":"e:a","e:p":[{"@value":"x"}]}}}"#;
+    assert_eq!(rt; text.as_slice(), want.as_bytes());
     assert_eq!(rt; issued, 0);
     Ok(())
 }
