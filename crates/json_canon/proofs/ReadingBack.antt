@@ -1,5 +1,5 @@
 -- The canonical text of a value reads as that value.
-use Rattle.std.proofs.Common.{◌≡◌, ℕ, suc, ◌+◌, ◌≤◌, ◌<◌, ◌^◌, List, [], ◌∷◌, ◌++◌, refl, ap, ap₂, ℤ, ◌∙◌, sym, subst, arith, true, false, Bool, cond, Some, None, Ordering, Less, Equal, Greater, map, pos, negsuc, append-nil}
+use Rattle.std.proofs.Common.{◌≡◌, ℕ, suc, ◌+◌, ◌≤◌, ◌^◌, List, [], ◌∷◌, refl, ap, ap₂, ℤ, ◌∙◌, sym, subst, arith, cond, Some, Ordering, Less, Equal, Greater, map, pos, negsuc, append-nil}
 use Rattle.std.specs.Prelude.{codes, max}
 use Rattle.std.specs.Option.{option_map, option_and_then, unwrap_or}
 use Rattle.std.specs.List.Sorted.{IsStrictlySortedBy}
@@ -8,7 +8,6 @@ use Rattle.std.specs.BTreeMap.{insert_entry}
 use Rattle.std.specs.Ordering.{match_ordering}
 use Rattle.std.proofs.lemmas.Bool.{le-leb, cond_both}
 use Rattle.json.specs.Json as json
-use Rattle.json.specs.Lex.{tokens}
 use Rattle.json.specs.Print.{print, IsNumber}
 use Rattle.json.specs.Tree.{json_tokens, depth, items_depth, members_depth, HasNumbers, ItemsHaveNumbers, MembersHaveNumbers}
 use Rattle.json.proofs.Printed.Decimals.{IsNumber-signed_decimal}
@@ -16,13 +15,12 @@ use Rattle.json.proofs.Printed.Tokens.{tokens-print}
 use Rattle.json.proofs.Printed.Trees.{value-json_tokens, ArePrintable-json_tokens}
 use Rattle.json.proofs.OnLiterals.{json_on_literals}
 use Rattle.serde_json.specs.Data as values
-use Rattle.serde_json.specs.Read.{read, of_json, of_items, of_members, number_of}
+use Rattle.serde_json.specs.Read.{read, of_json, of_items, of_members}
 use Rattle.serde_json.proofs.Numbers.{number_of-decimal, number_of-negative}
 use Rattle.serde_json.proofs.OnLiterals.{serde_json_on_literals}
-use Rattle.ld_json.specs.Read.{tree_of, trees_in, members_in, number_tree}
-use Rattle.ld_model.specs.Tree as model
+use Rattle.ld_json.specs.Read.{tree_of, trees_in, members_in}
 use Rattle.ld_model.specs.Tree.{Tree, null, truth, whole, one_one, text, array, object, Trees, no_trees, tree, Members, no_members, member, members_of, member_list, byte_order}
-use Rattle.json_canon.specs.Canonical.{with_members_in_order, each_in_order, values_in_order, in_order, placed, json_of, json_items, json_members, canonical_text}
+use Rattle.json_canon.specs.Canonical.{with_members_in_order, each_in_order, values_in_order, in_order, placed, json_of, json_items, json_members}
 use Rattle.std.specs.Fmt.{signed_decimal}
 use Rattle.json_canon.specs.Utf16.{comes_before}
 use Rattle.json_canon.specs.Laws.{IsRead, AreRead, ValuesAreRead, ReadsBack}

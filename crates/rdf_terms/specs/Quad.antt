@@ -1,4 +1,4 @@
--- Which quads are valid (RDF 1.1 N-Quads, sections 2 and 6).
+-- Which quads are valid (RDF 1.1 Concepts, section 3; RDF 1.1 N-Quads, the grammar).
 use Rattle.std.specs.Prelude.{ℕ, ◌==◌, ◌&&◌, ◌||◌, nat_le, Bool, true, false, List, [], ◌∷◌, Option, Some, None, IsTrue, drop}
 use Rattle.std.specs.List.{list_any}
 use Rattle.std.specs.Str.{chars, bytes_eq}
