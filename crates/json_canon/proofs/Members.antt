@@ -96,7 +96,7 @@ sorted_lent ms sorted ps i past same texts ascending moved in_sort =
     let distinct : IsDistinct (eq_by_cmp utf16_order) (keys_of ps) = distinct_units (keys_of ps) utf8 (IsDistinct-from_sorted byte_order (keys_of ps) (subst (IsStrictlySortedBy byte_order) (keys_of-members_view ps) ascending)) in
     let still_distinct : IsDistinct (eq_by_cmp utf16_order) (keys_of (map lent sorted)) = IsDistinct-IsPermutation _ (eq_by_cmp_equiv utf16_order_total).symm (keys_of ps) (keys_of (map lent sorted)) (IsPermutation-map (λ (m : List ℕ × Tree). m.0) ps (map lent sorted) moved_ps) distinct in
     let ordered : AreInOrder (map lent sorted) = subst (IsStrictlySortedBy utf16_order) (names-lent sorted) (in_order_from_sorted (λ (m : Bor (List ℕ) × Bor Tree). m.0.now) sorted in_sort (subst (IsDistinct (eq_by_cmp utf16_order)) (sym (names-lent sorted)) still_distinct)) in
-    same_members (map lent sorted) (in_order ps) ordered (in_order-AreInOrder ps distinct) (λ m h. Contains-permutation ps (in_order ps) m (IsPermutation-in_order ps) (Contains-permutation (map lent sorted) ps m (IsPermutation-sym _ _ moved_ps) h)) (λ m h. Contains-permutation ps (map lent sorted) m moved_ps (Contains-permutation (in_order ps) ps m (IsPermutation-sym _ _ (IsPermutation-in_order ps)) h))
+    same_members utf16_order_total (map lent sorted) (in_order ps) ordered (in_order-AreInOrder ps distinct) (λ m h. Contains-permutation ps (in_order ps) m (IsPermutation-in_order ps) (Contains-permutation (map lent sorted) ps m (IsPermutation-sym _ _ moved_ps) h)) (λ m h. Contains-permutation ps (map lent sorted) m moved_ps (Contains-permutation (in_order ps) ps m (IsPermutation-sym _ _ (IsPermutation-in_order ps)) h))
 
 -- What is written once the borrowed members are.
 pub object_written : {E : Type 0} (r : Result (Unit {0}) E) (self : Tree) (members : model.Pairs) (ps : List (List ℕ × Tree)) (ms : List (Bor (List ℕ) × Bor Tree)) (i : ℕ) (old new out : List Token) → view self ≡ object (members_of members) → members_view ps ≡ members → map lent ms ≡ in_order ps → length ms ≤ i → out ++ members_tokens (json_members (members_of (map written (drop i ms)))) ≡ old ++ Token.begin_object ∷ members_tokens (json_members (members_of (map written ms))) → OnOk r (new ≡ out ++ Token.end_object ∷ []) → OnOk r (new ≡ old ++ json_tokens (json_of (with_members_in_order (view self))))

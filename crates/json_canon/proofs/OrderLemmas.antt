@@ -1,8 +1,8 @@
 -- The order by UTF-16 code units is a strict total order, and how lists of members stand in it.
-use Rattle.std.proofs.Common.{◌≡◌, ◌≢◌, ℕ, ◌+◌, ◌<◌, List, [], ◌∷◌, ◌++◌, length, get_or, refl, ap, ◌∙◌, sym, subst, arith, true, false, Bool, cond, Ordering, Less, Equal, Greater, inl, inr, ◌⊎◌, IsUtf8}
+use Rattle.std.proofs.Common.{◌≡◌, ◌≢◌, ℕ, ◌<◌, List, [], ◌∷◌, refl, ap, ◌∙◌, true, false, Ordering, Less, Equal, Greater, inl, inr, ◌⊎◌, IsUtf8}
 use Rattle.std.specs.Cmp.{IsTotalOrder}
 use Rattle.std.specs.Cmp.Lexicographic.{slice_cmp}
-use Rattle.std.specs.Ordering.{nat_cmp, is_lt, eq_by_cmp, ordering_reverse}
+use Rattle.std.specs.Ordering.{nat_cmp, is_lt, ordering_reverse}
 use Rattle.std.proofs.lemmas.Cmp.{nat_list_cmp_total, on_total, tied_itself, ranked, by_ranked}
 use Rattle.json_canon.specs.Utf16.{code_units, utf16_order, comes_before}
 use Rattle.json_canon.proofs.Units.{code_units_same}

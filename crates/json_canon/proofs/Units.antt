@@ -1,7 +1,7 @@
 -- The UTF-16 code units that an iterator gives, and that they tell their text.
-use Rattle.std.proofs.Common.{◌≡◌, ℕ, ◌+◌, ◌-◌, ◌*◌, ◌/◌, ◌%◌, ◌<◌, ◌≤◌, List, [], ◌∷◌, ◌++◌, length, length-append, refl, ap, ◌∙◌, sym, subst, arith, true, false, Bool, cond, nat_lt, inl, inr, ◌⊎◌, IsUtf8}
+use Rattle.std.proofs.Common.{◌≡◌, ℕ, ◌+◌, ◌-◌, ◌/◌, ◌%◌, ◌<◌, ◌≤◌, List, [], ◌∷◌, ◌++◌, length, length-append, refl, ap, ◌∙◌, sym, arith, true, false, Bool, cond, nat_lt, inl, inr, ◌⊎◌, IsUtf8}
 use Rattle.std.specs.Prelude.{flat_map}
-use Rattle.std.specs.Str.{chars, encode_utf8_all}
+use Rattle.std.specs.Str.{chars}
 use Rattle.std.specs.Char.Escape.{encode_utf16}
 use Rattle.std.specs.Str.Iter.{encode_utf16_steps, encode_utf16_rest, encode_utf16_pending}
 use Rattle.std.specs.Iterator.{AlwaysYields}

@@ -3,10 +3,12 @@
 //! [`canonical`] writes it. [`less_utf16`] is the order in which it puts the members of an object.
 #![tactic(auto)]
 
+mod laws;
 mod order;
 #[cfg(test)]
 mod tests;
 mod writing;
 
-pub use order::{less_utf16, less_utf16_orders_texts};
+pub use laws::{canonical_text_reads_back, less_utf16_orders_texts, members_are_sorted};
+pub use order::less_utf16;
 pub use writing::canonical;

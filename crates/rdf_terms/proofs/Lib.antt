@@ -1,2 +1,4 @@
 pub mod Parts
 pub mod Zeros
+pub mod QuadLaws
+pub mod Examples

@@ -1,5 +1,5 @@
 -- A tag with a hyphen, and one without.
-use Rattle.std.proofs.Common.{◌≡◌, ℕ, ◌<◌, ◌&&◌, nat_eq, Bool, true, false, cond, List, [], ◌∷◌, length, refl, ap, ◌∙◌, sym, arith, inl, inr, ◌⊎◌}
+use Rattle.std.proofs.Common.{◌≡◌, ℕ, ◌<◌, ◌&&◌, nat_eq, Bool, true, false, List, [], ◌∷◌, length, refl, ap, ◌∙◌, sym, arith, inl, inr, ◌⊎◌}
 use Rattle.std.specs.List.{list_all, slice_split, position_or_len, before_first, after_first, onto_first}
 use Rattle.std.proofs.lemmas.Bool.{cases_Bool}
 use Rattle.std.proofs.lemmas.List.Splits.{slice_split_first}

@@ -1,12 +1,12 @@
 -- Zeros cut off the end of digits.
-use Rattle.std.proofs.Common.{◌≡◌, ◌≢◌, ℕ, ◌-◌, ◌<◌, ◌≤◌, nat_eq, Bool, true, false, cond, List, [], ◌∷◌, ◌++◌, length, take, drop, refl, ap, ap₂, ◌∙◌, sym, arith, lit<, take-append-drop, Option, Some, None, IfSome, inl, inr}
+use Rattle.std.proofs.Common.{◌≡◌, ◌≢◌, ℕ, ◌-◌, nat_eq, cond, List, [], ◌∷◌, ◌++◌, length, drop, refl, ap, ap₂, ◌∙◌, sym, arith, lit<, take-append-drop, Option, Some, None, IfSome, inl, inr}
 use Rattle.std.specs.Str.Pattern.{FindsCharSuffix, CutsSuffixes, IsTrimEndMatches}
 use Rattle.std.proofs.lemmas.List.{drop_all}
 use Rattle.std.proofs.lemmas.Bool.{cases_Bool, eqb-true}
 use Rattle.std.proofs.lemmas.Str.{encode_ascii}
 use Rattle.rdf_terms.specs.Double.{ahead, without_trailing_zeros}
 
-zero_last : (ds : List ℕ) → without_trailing_zeros (ds ++ 48 ∷ []) ≡ without_trailing_zeros ds
+pub zero_last : (ds : List ℕ) → without_trailing_zeros (ds ++ 48 ∷ []) ≡ without_trailing_zeros ds
 zero_last [] = refl
 zero_last (d ∷ ds) = ap (ahead d) (zero_last ds)
 

@@ -1,4 +1,4 @@
--- Language tags (RDF 1.1 N-Quads, section 6: LANGTAG, without its `@`).
+-- Language tags (RDF 1.1 N-Quads, the grammar: LANGTAG, without its `@`).
 use Rattle.std.specs.Prelude.{ℕ, ◌==◌, ◌&&◌, not, Bool, false, List, [], ◌∷◌, length}
 use Rattle.std.specs.List.{list_all, slice_split}
 use Rattle.std.specs.Char.{is_ascii_alphabetic, is_ascii_alphanumeric}

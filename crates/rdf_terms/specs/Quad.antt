@@ -1,5 +1,5 @@
--- Which quads are valid (RDF 1.1 N-Quads, sections 2 and 6).
-use Rattle.std.specs.Prelude.{ℕ, ◌≡◌, ◌==◌, ◌&&◌, ◌||◌, nat_le, Bool, true, false, List, [], ◌∷◌, Option, Some, None, IsTrue, ⊤}
+-- Which quads are valid (RDF 1.1 Concepts, section 3; RDF 1.1 N-Quads, the grammar).
+use Rattle.std.specs.Prelude.{ℕ, ◌==◌, ◌&&◌, ◌||◌, nat_le, Bool, true, false, List, [], ◌∷◌, Option, Some, None, IsTrue, drop}
 use Rattle.std.specs.List.{list_any}
 use Rattle.std.specs.Str.{chars, bytes_eq}
 use Rattle.std.specs.Char.{is_ascii_digit}
@@ -37,10 +37,14 @@ is_label_rest [] = true
 is_label_rest (c ∷ []) = is_pn_chars c
 is_label_rest (c ∷ d ∷ cs) = (is_pn_chars c || (c == 46)) && is_label_rest (d ∷ cs)
 
--- BLANK_NODE_LABEL: `_:`, PN_CHARS_U or a digit, and the rest
+-- What follows `_:`: PN_CHARS_U or a digit, and the rest.
+abbrev pub is_label_body : List ℕ → Bool
+is_label_body [] = false
+is_label_body (c ∷ cs) = (is_pn_chars_u c || is_ascii_digit c) && is_label_rest cs
+
+-- BLANK_NODE_LABEL
 abbrev pub is_label : List ℕ → Bool
-is_label (a ∷ b ∷ c ∷ cs) = (a == 95) && (b == 58) && (is_pn_chars_u c || is_ascii_digit c) && is_label_rest cs
-is_label _ = false
+is_label s = is_blank s && is_label_body (chars (drop 2 s))
 
 -- ---- terms
 
@@ -52,7 +56,7 @@ is_language_of datatype (Some tag) = is_tag tag && bytes_eq datatype (datatype_n
 -- IRIs are well-formed, labels are labels, and languages stand where they may.
 abbrev pub is_valid_term : Term → Bool
 is_valid_term (Iri iri) = is_well_formed iri
-is_valid_term (Blank label) = is_label (chars label)
+is_valid_term (Blank label) = is_label label
 is_valid_term (Literal lexical datatype language) = is_well_formed datatype && is_language_of datatype language
 
 abbrev pub is_iri : Term → Bool

@@ -4,7 +4,7 @@ ghost use Rattle.std.specs.List.{list_all};
 ghost use Rattle.std.specs.Char.{is_ascii_alphabetic, is_ascii_alphanumeric};
 ghost use Rattle.rdf_terms.specs.Language.{is_tag, is_letters, is_letters_or_digits};
 
-/// Whether a text is a language tag by the grammar of RDF 1.1 N-Quads, section 6, LANGTAG without its `@`: letters,
+/// Whether a text is a language tag by the grammar of RDF 1.1 N-Quads (LANGTAG, without its `@`): letters,
 /// and then any number of parts of letters and digits, each behind a hyphen. It takes no memory.
 pub fn is_language_tag(text: &str) -> bool
     ensures { result ≡ is_tag text.now }

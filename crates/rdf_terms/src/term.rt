@@ -19,7 +19,7 @@ pub enum Term {
     },
 }
 
-/// A triple, in the default graph or in a named one (RDF 1.1 N-Quads, section 2).
+/// A triple, in the default graph or in a named one (RDF 1.1 Concepts, section 4).
 #[derive(Drop)]
 pub struct Quad {
     /// An IRI or a blank node.

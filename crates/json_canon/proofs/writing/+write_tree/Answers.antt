@@ -1,4 +1,4 @@
-use Rattle.std.proofs.Common.{◌≡◌, ap, ◌∙◌, sym, rules, refl}
+use Rattle.std.proofs.Common.{ap, rules, refl}
 use Rattle.json.proofs.OnLiterals.{json_on_literals}
 use Rattle.ld_json.specs.View.{view}
 use Rattle.ld_json.proofs.ViewLemmas.{item_is_lighter}

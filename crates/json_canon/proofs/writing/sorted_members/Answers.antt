@@ -1,4 +1,4 @@
-use Rattle.std.proofs.Common.{◌≡◌, ap, ◌∙◌, sym, subst, rules, IsUtf8, map, take, List, ℕ}
+use Rattle.std.proofs.Common.{ap, ◌∙◌, subst, rules, IsUtf8, map}
 use Rattle.std.proofs.lemmas.List.Elements.{All-more}
 use Rattle.std.proofs.lemmas.List.Sorted.{ranks_by, answers_always}
 use Rattle.json_canon.specs.Utf16.{comes_before}

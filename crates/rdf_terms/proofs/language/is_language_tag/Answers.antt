@@ -1,8 +1,7 @@
-use Rattle.std.proofs.Common.{◌≡◌, ℕ, ◌∙◌, ap, sym, lit<, refl, rules, tests, nat_eq, ◌&&◌, false}
-use Rattle.std.specs.List.{list_all, slice_split}
+use Rattle.std.proofs.Common.{◌∙◌, lit<, rules, tests}
 use Rattle.std.proofs.lemmas.Iterator.Search.{all_from_yields_List}
 use Rattle.std.proofs.lemmas.Iterator.Splits.{YieldsList-from_str_split}
-use Rattle.rdf_terms.specs.Language.{is_tag, is_letters, is_letters_or_digits}
+use Rattle.rdf_terms.specs.Language.{is_letters_or_digits}
 use Rattle.rdf_terms.proofs.Parts.{tag_by_rest, tag_refused, tag_without_hyphen}
 use Rattle.rdf_terms.proofs.language.is_language_tag.Goals as goal
 

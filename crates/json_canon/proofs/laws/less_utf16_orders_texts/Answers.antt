@@ -1,5 +1,5 @@
 use Rattle.json_canon.proofs.OrderLemmas.{before_itself, before_trans, before_total}
-use Rattle.json_canon.proofs.order.less_utf16_orders_texts.Goals as goal
+use Rattle.json_canon.proofs.laws.less_utf16_orders_texts.Goals as goal
 
 pub returns-clause-irreflexive : goal.returns-clause-irreflexive
 returns-clause-irreflexive c = before_itself
