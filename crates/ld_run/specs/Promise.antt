@@ -1,5 +1,5 @@
 -- What a call of the program keeps.
-use Rattle.std.specs.Prelude.{ℕ, ◌≡◌, ◌⊎◌, List, Option, IfSome, Bool, ⊤}
+use Rattle.std.specs.Prelude.{ℕ, ◌≡◌, ◌⊎◌, List, Option, Some, IfSome, Bool, ⊤}
 use Rattle.std.specs.Io.KnownBytes.{Appends, IsAtEnd}
 use Rattle.ld_io.specs.Faults.{Rose}
 use Rattle.ld_io.specs.Sinks.{IsFinished, AppendsFront}
@@ -39,12 +39,12 @@ pub record IsDone (due : Option Out) (left : Option (List ℕ)) (out : Sunk) : T
   pub read : IsAtEnd left
   pub finished : IsFinished out.finished
 
--- A refusal, `Usage` and `TooLarge` come only where they are due, and say their line.
-abbrev pub IsRefused : Status → Option Out → Sunk → Type 0
-IsRefused (Refused r) due err = IfSome due (λ d. d ≡ refused r) × SaysLine (status.Refused r) err
-IsRefused Usage due err = IfSome due (λ d. d ≡ usage) × SaysLine status.Usage err
-IsRefused TooLarge due err = IfSome due (λ d. d ≡ too_large) × SaysLine status.TooLarge err
-IsRefused _ due err = ⊤
+-- A refusal, `Usage` and `TooLarge` come only where they are due, say their line and leave the output the same. `Usage` rests on the words, so it comes only where it is told to be due.
+abbrev pub IsRefused : Status → Option Out → Sunk → Type 0 → Type 0
+IsRefused (Refused r) due err same = IfSome due (λ d. d ≡ refused r) × SaysLine (status.Refused r) err × same
+IsRefused Usage due err same = (due ≡ Some usage) × SaysLine status.Usage err × same
+IsRefused TooLarge due err same = IfSome due (λ d. d ≡ too_large) × SaysLine status.TooLarge err × same
+IsRefused _ due err same = ⊤
 
 -- Where no bytes are due, the output stays as it was.
 abbrev pub OutStays : Out → Type 0 → Type 0
@@ -60,7 +60,7 @@ WritesFront _ out = ⊤
 abbrev pub MaySay : Option Out → ℕ → ℕ → Sunk → Status → Type 0
 MaySay due before now out Done = ⊥
 MaySay due before now out (Refused r) = IfSome due (λ d. d ≡ refused r)
-MaySay due before now out Usage = IfSome due (λ d. d ≡ usage)
+MaySay due before now out Usage = due ≡ Some usage
 MaySay due before now out TooLarge = IfSome due (λ d. d ≡ too_large)
 MaySay due before now out ReadFault = Rose before now
 MaySay due before now out WriteFault = HasRisen out

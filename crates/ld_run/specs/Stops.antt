@@ -1,5 +1,5 @@
 -- Why there is nothing to write, inside the call.
-use Rattle.std.specs.Prelude.{ℕ, ◌≡◌, Option, IfSome, ⊤}
+use Rattle.std.specs.Prelude.{ℕ, ◌≡◌, Option, Some, IfSome, ⊤}
 use Rattle.ld_io.specs.Faults.{Rose}
 use Rattle.ld_run.specs.declared.status.Status.{Status}
 use Rattle.ld_run.specs.declared.status.Status.TheVariants as status
@@ -23,7 +23,7 @@ IsStopOf _ out = ⊥
 -- When the call stops so.
 abbrev pub IsDueStop : Stop → Option Out → Type 0
 IsDueStop (Refused r) due = IfSome due (λ d. d ≡ refused r)
-IsDueStop Usage due = IfSome due (λ d. d ≡ usage)
+IsDueStop Usage due = due ≡ Some usage
 IsDueStop TooLarge due = IfSome due (λ d. d ≡ too_large)
 IsDueStop ReadFault due = ⊤
 IsDueStop OutOfMemory due = ⊤

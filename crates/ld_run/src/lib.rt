@@ -11,3 +11,6 @@ mod status;
 
 pub use run::run_alone;
 pub use status::{Refusal, Status};
+
+#[cfg(test)]
+mod tests;

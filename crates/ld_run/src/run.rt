@@ -42,8 +42,8 @@ pub fn run_alone<S: Source, F: Folder, K: Sink, E: Sink>(
     ensures done { result ≡ Status.Done → IsDone (due (words_of words.now) (S.left source.old)) (S.left source.new)
         (sunk K.held K.finished K.faults out.old out.new) × (err.new ≡ err.old) }
 
-    // A refusal comes only where it is due, with its line.
-    ensures refused { IsRefused result (due (words_of words.now) (S.left source.old)) (sunk E.held E.finished E.faults err.old err.new) }
+    // A refusal comes only where it is due, with its line, and leaves the output as it was.
+    ensures refused { IsRefused result (due (words_of words.now) (S.left source.old)) (sunk E.held E.finished E.faults err.old err.new) (out.new ≡ out.old) }
     ensures untouched { IfSome (due (words_of words.now) (S.left source.old)) (λ d. OutStays d (out.new ≡ out.old)) }
 
     // Each fault has its cause.
