@@ -1,3 +1,4 @@
 pub mod Searches
 pub mod ViewLemmas
 pub mod ReadValues
+pub mod Digits

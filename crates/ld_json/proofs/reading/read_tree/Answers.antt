@@ -1,17 +1,25 @@
-use Rattle.std.proofs.Common.{Some, true, false, ap, sym, ◌∙◌, arith}
+use Rattle.std.proofs.Common.{◌≡◌, Some, None, Option, ap, sym, ◌∙◌, arith}
 use Rattle.std.proofs.lemmas.Grind.{common_steps}
 use Rattle.serde_json.specs.View.{view as value_view}
-use Rattle.ld_json.specs.Read.{reads}
-use Rattle.ld_json.proofs.ReadValues.{reading-utf8, reading-no_json}
+use Rattle.ld_model.specs.Tree.{Tree}
+use Rattle.ld_json.specs.declared.location.Step.{Step}
+use Rattle.ld_json.specs.View.{view}
+use Rattle.ld_json.specs.Marks.{misplaced}
+use Rattle.ld_json.specs.Read.{Reading, gated, marked, value_tree}
+use Rattle.ld_json.proofs.ReadValues.{reading-utf8, reading-no_json, reading-tree}
 use Rattle.ld_json.proofs.reading.read_tree.Goals as goal
 
 pub returns-in-Err : goal.returns-in-Err
 returns-in-Err c = reading-no_json c.args.bytes.now (c.in-Err.ensures.err (λ m. grind (arith, common_steps)))
 
-pub returns-then-has_digit_outside : goal.returns-then-has_digit_outside
-returns-then-has_digit_outside c =
-    reading-utf8 c.args.bytes.now (Some (value_view c.in-Ok.value)) true c.in-Ok.ensures.ok.0 (grind (arith, common_steps)) c.in-Ok.ensures.ok.1
+pub returns-in-Some : goal.returns-in-Some
+returns-in-Some c =
+    reading-utf8 c.args.bytes.now (Some (value_view c.in-Ok.value)) (Some c.in-Some.at) c.in-Ok.ensures.ok.0 (grind (arith, common_steps)) c.in-Ok.ensures.ok.1
 
-pub returns : goal.returns
-returns c =
-    reading-utf8 c.args.bytes.now (Some (value_view c.in-Ok.value)) false c.in-Ok.ensures.ok.0 (grind (arith, common_steps)) c.in-Ok.ensures.ok.1 ∙ ap reads (sym c.in_ok-tree.ensures)
+pub returns-in-Some-2 : goal.returns-in-Some-2
+returns-in-Some-2 c =
+    reading-tree c.args.bytes.now c.in-Ok.value (view c.in_ok-tree.tree) (Some c.in-Some-2.place) c.in-Ok.ensures.ok.0 c.in-Ok.ensures.ok.1 (grind (arith, common_steps)) c.in_ok-tree.ensures (grind (arith, common_steps))
+
+pub returns-in-None : goal.returns-in-None
+returns-in-None c =
+    reading-tree c.args.bytes.now c.in-Ok.value (view c.in_ok-tree.tree) None c.in-Ok.ensures.ok.0 c.in-Ok.ensures.ok.1 (grind (arith, common_steps)) c.in_ok-tree.ensures (grind (arith, common_steps))
