@@ -1,11 +1,7 @@
-use Rattle.std.proofs.Common.{◌≡◌, Some, None, Option, ap, sym, ◌∙◌, arith}
+use Rattle.std.proofs.Common.{Some, None, arith}
 use Rattle.std.proofs.lemmas.Grind.{common_steps}
 use Rattle.serde_json.specs.View.{view as value_view}
-use Rattle.ld_model.specs.Tree.{Tree}
-use Rattle.ld_json.specs.declared.location.Step.{Step}
 use Rattle.ld_json.specs.View.{view}
-use Rattle.ld_json.specs.Marks.{misplaced}
-use Rattle.ld_json.specs.Read.{Reading, gated, marked, value_tree}
 use Rattle.ld_json.proofs.ReadValues.{reading-utf8, reading-no_json, reading-tree}
 use Rattle.ld_json.proofs.reading.read_tree.Goals as goal
 
