@@ -1,6 +1,6 @@
 -- The number tokens of a text, each with the place of its first byte, and which of them are accepted (RFC 8259, sections 2,
 -- 6 and 7).
-use Rattle.std.specs.Prelude.{ℕ, ◌+◌, ◌-◌, ◌*◌, ◌^◌, ◌==◌, ◌||◌, ◌&&◌, List, [], ◌∷◌, ◌++◌, Bool, false, nat_lt, nat_le, if◌then◌else◌, Option, Some, None, codes}
+use Rattle.std.specs.Prelude.{ℕ, ◌+◌, ◌-◌, ◌*◌, ◌^◌, ◌==◌, ◌||◌, ◌&&◌, List, [], ◌∷◌, ◌++◌, map, Bool, false, nat_lt, nat_le, if◌then◌else◌, Option, Some, None, codes}
 use Rattle.std.specs.List.{list_all, before_first}
 use Rattle.std.specs.Char.{is_ascii_digit}
 use Rattle.std.specs.Str.{bytes_eq}
@@ -65,3 +65,11 @@ first_refused (n ∷ ns) = if is_accepted n.1 then first_refused ns else Some n.
 -- Where the first number of a text begins that isn't accepted.
 abbrev pub refused_number : List ℕ → Option ℕ
 refused_number bytes = first_refused (numbers Outside 0 bytes)
+
+-- The number tokens of a text (RFC 8259, section 6).
+abbrev pub number_tokens : List ℕ → List (List ℕ)
+number_tokens bytes = map (λ n. n.1) (numbers Outside 0 bytes)
+
+-- Each number token of a text is accepted.
+abbrev pub are_accepted : List ℕ → Bool
+are_accepted bytes = list_all is_accepted (number_tokens bytes)

@@ -1,6 +1,6 @@
 -- What a text reads as: the tree that `serde_json` reads (RFC 8259), where its numbers are accepted and the number 1.1 stands
 -- only at `@version`.
-use Rattle.std.specs.Prelude.{ℕ, ◌+◌, ◌^◌, ◌≡◌, List, nat_le, if◌then◌else◌, Option, Some, None, pos, negsuc, ⊤, String, string_bytes}
+use Rattle.std.specs.Prelude.{ℕ, ◌+◌, ◌^◌, ◌≡◌, List, Bool, true, false, nat_le, if◌then◌else◌, Option, Some, None, pos, negsuc, ⊤, String, string_bytes}
 use Rattle.std.specs.declared.alloc.Global.{Global}
 use Rattle.std.specs.Str.{is_utf8}
 use Rattle.serde_json.specs.Data as json
@@ -73,6 +73,12 @@ Refuses Syntax r = r ≡ no_json
 Refuses (Number at) r = r ≡ number_at at
 Refuses (VersionNumber place) r = r ≡ version_at place
 Refuses OutOfMemory r = ⊤
+
+-- What a refusal says of the numbers of the text: `Number`, that one isn't accepted, and `VersionNumber`, that each is.
+abbrev pub SaysOfNumbers : ReadRefusal → Bool → Type 0
+SaysOfNumbers (Number at) accepted = accepted ≡ false
+SaysOfNumbers (VersionNumber place) accepted = accepted ≡ true
+SaysOfNumbers _ accepted = ⊤
 
 -- The tree of a value of `serde_json`.
 abbrev pub value_tree : Value → Tree

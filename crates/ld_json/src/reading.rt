@@ -1,8 +1,9 @@
 // Reading a text.
-ghost use Rattle.std.specs.Prelude.{◌≡◌, IfOk, MatchResult, map};
+ghost use Rattle.std.specs.Prelude.{◌≡◌, true, IfOk, MatchResult, map};
 ghost use Rattle.serde_json.specs.View.{number_view};
 ghost use Rattle.ld_json.specs.View.{view};
-ghost use Rattle.ld_json.specs.Read.{reading, reads, Refuses, number_tree, value_tree, value_member};
+ghost use Rattle.ld_json.specs.Numbers.{are_accepted};
+ghost use Rattle.ld_json.specs.Read.{reading, reads, Refuses, SaysOfNumbers, number_tree, value_tree, value_member};
 
 use crate::location::Place;
 use crate::marks::misplaced;
@@ -50,8 +51,10 @@ impl From<AllocError> for ReadRefusal {
 /// accepted, with the first one's place; `VersionNumber` exactly where the number 1.1 stands elsewhere than as the value
 /// of a key `@version`, with the first place. `OutOfMemory` where memory is refused.
 pub fn read_tree(alloc: Global, bytes: &[u8]) -> Result<Tree, ReadRefusal>
-    ensures { MatchResult result (λ t. reading bytes.now ≡ reads (view t))
+    ensures answer { MatchResult result (λ t. reading bytes.now ≡ reads (view t))
         (λ e. Refuses e (reading bytes.now)) }
+    ensures numbers { MatchResult result (λ _. are_accepted bytes.now ≡ true)
+        (λ e. SaysOfNumbers e (are_accepted bytes.now)) }
 {
     let value = match Value::from_slice(alloc, bytes) {
         Ok(value) => value,
