@@ -4,7 +4,7 @@
 #![tactic(auto)]
 
 use ld_io::{MapFolder, StdSink, StdSource};
-use ld_run::{Status, run_alone};
+use ld_run::{OUT_OF_MEMORY, Status, run_alone};
 use std::io::ErrorKind;
 use std::process::ExitCode;
 use std::{env, io};
@@ -50,8 +50,7 @@ fn without_words(rt: &HostRuntime, error: &io::Error) -> Status {
     if error.kind() != ErrorKind::OutOfMemory {
         return run(rt, &[]);
     }
-    let line = Status::OutOfMemory.line();
-    match rt.eprint(line) {
+    match rt.eprint(OUT_OF_MEMORY) {
         Ok(()) => Status::OutOfMemory,
         Err(_) => Status::WriteFault,
     }

@@ -1,5 +1,5 @@
 -- The trees that a text and the values of `serde_json` stand for.
-use Rattle.std.proofs.Common.{◌≡◌, ℕ, List, [], ◌∷◌, ◌++◌, None, Bool, true, false, map, String, Vec, BTreeMap, Global, string_bytes, refl, sym, ap, ◌∙◌, subst, append_assoc, string_cmp, Less, IsUtf8}
+use Rattle.std.proofs.Common.{◌≡◌, ℕ, List, [], ◌∷◌, ◌++◌, Some, None, Option, Bool, true, false, map, String, Vec, BTreeMap, Global, string_bytes, refl, sym, ap, ◌∙◌, subst, append_assoc, string_cmp, Less, IsUtf8}
 use Rattle.std.specs.List.{AllByRecursion}
 use Rattle.std.specs.List.Sorted.{IsStrictlySortedBy}
 use Rattle.std.specs.Map.{keys_of}
@@ -7,12 +7,14 @@ use Rattle.std.specs.BTreeMap.{insert_entry}
 use Rattle.std.specs.Str.{is_utf8}
 use Rattle.std.proofs.lemmas.Str.{is_utf8-from_IsUtf8, IsUtf8-from_is_utf8}
 use Rattle.serde_json.specs.Read.{read}
-use Rattle.serde_json.specs.View.{items_view, members_view}
+use Rattle.serde_json.specs.View.{view as value_view, items_view, members_view}
 use Rattle.serde_json.specs.declared.value.Value.{Value, Array, Object}
 use Rattle.serde_json.proofs.Views.{view-Array, view-Object}
 use Rattle.ld_model.specs.Tree.{Tree, array, object, trees_of, members_of, tree, member, Pairs, AreAscending, byte_order}
-use Rattle.ld_json.specs.declared.reading.Stand.TheVariants.{Outside}
-use Rattle.ld_json.specs.Read.{tree_of, trees_in, members_in, reading, reading_of, has_digit, no_json, value_tree, value_member}
+use Rattle.ld_json.specs.declared.location.Step.{Step}
+use Rattle.ld_json.specs.Numbers.{refused_number}
+use Rattle.ld_json.specs.Marks.{misplaced}
+use Rattle.ld_json.specs.Read.{tree_of, trees_in, members_in, reading, reading_of, marked, no_json, value_tree, value_member}
 use Rattle.ld_json.proofs.ViewLemmas.{insert_entry-behind}
 
 -- The trees of the values in an array and in an object.
@@ -30,10 +32,14 @@ value_tree-Array v = ap tree_of (view-Array v) ∙ ap array (trees_in-items_view
 pub value_tree-Object : (m : BTreeMap (String Global) Value) → value_tree (Object m) ≡ object (members_of (map value_member m.entries))
 value_tree-Object m = ap tree_of (view-Object m) ∙ ap object (members_in-members_view m.entries)
 
--- A text in UTF-8 reads as what `serde_json` reads, unless it has a digit outside strings.
-pub reading-utf8 : (bytes : List ℕ) (d : _) (digits : Bool) → IsUtf8 bytes → has_digit Outside bytes ≡ digits → read bytes ≡ d → reading bytes ≡ reading_of digits d
+-- A text in UTF-8 reads as what `serde_json` reads, where its numbers and its marks are accepted.
+pub reading-utf8 : (bytes : List ℕ) (d : _) (refused : Option ℕ) → IsUtf8 bytes → refused_number bytes ≡ refused → read bytes ≡ d → reading bytes ≡ reading_of refused d
 unfolding reading
-reading-utf8 bytes d digits utf8 digit is = rw (is_utf8-from_IsUtf8 bytes utf8, digit, is)
+reading-utf8 bytes d refused utf8 number is = rw (is_utf8-from_IsUtf8 bytes utf8, number, is)
+
+pub reading-tree : (bytes : List ℕ) (value : Value) (t : Tree) (place : Option (List Step)) → IsUtf8 bytes → read bytes ≡ Some (value_view value) → refused_number bytes ≡ None → t ≡ value_tree value → place ≡ misplaced t → reading bytes ≡ marked place t
+reading-tree bytes value t place utf8 is number same mark =
+    reading-utf8 bytes (Some (value_view value)) None utf8 number is ∙ ap (λ u. marked (misplaced u) u) (sym same) ∙ ap (λ p. marked p t) (sym mark)
 
 -- A text that `serde_json` doesn't read is no JSON, and neither is one that isn't in UTF-8.
 pub reading-no_json : (bytes : List ℕ) → (IsUtf8 bytes → read bytes ≡ None) → reading bytes ≡ no_json

@@ -1,17 +1,18 @@
--- What a text reads as: the tree that `serde_json` reads (RFC 8259), as long as no number stands in it.
-use Rattle.std.specs.Prelude.{ℕ, ◌+◌, ◌^◌, ◌≡◌, ◌==◌, ◌||◌, List, [], ◌∷◌, Bool, true, false, nat_le, if◌then◌else◌, Option, Some, None, pos, negsuc, ⊤, String, string_bytes}
+-- What a text reads as: the tree that `serde_json` reads (RFC 8259), where its numbers are accepted and the number 1.1 stands
+-- only at `@version`.
+use Rattle.std.specs.Prelude.{ℕ, ◌+◌, ◌^◌, ◌≡◌, List, Bool, true, false, nat_le, if◌then◌else◌, Option, Some, None, pos, negsuc, ⊤, String, string_bytes}
 use Rattle.std.specs.declared.alloc.Global.{Global}
-use Rattle.std.specs.Char.{is_ascii_digit}
 use Rattle.std.specs.Str.{is_utf8}
 use Rattle.serde_json.specs.Data as json
 use Rattle.serde_json.specs.Read.{read}
 use Rattle.serde_json.specs.View.{view as value_view}
 use Rattle.serde_json.specs.declared.value.Value.{Value}
 use Rattle.ld_model.specs.Tree.{Tree, null, truth, whole, one_one, text, array, object, Trees, no_trees, tree, Members, no_members, member}
-use Rattle.ld_json.specs.declared.reading.Stand.{Stand}
-use Rattle.ld_json.specs.declared.reading.Stand.TheVariants.{Outside, Inside, Escaped}
+use Rattle.ld_json.specs.Numbers.{refused_number}
+use Rattle.ld_json.specs.Marks.{misplaced}
+use Rattle.ld_json.specs.declared.location.Step.{Step}
 use Rattle.ld_json.specs.declared.reading.ReadRefusal.{ReadRefusal}
-use Rattle.ld_json.specs.declared.reading.ReadRefusal.TheVariants.{Syntax, NotBuilt, OutOfMemory}
+use Rattle.ld_json.specs.declared.reading.ReadRefusal.TheVariants.{Syntax, Number, VersionNumber, OutOfMemory}
 
 -- The tree of a number: itself where it is whole and at most 2^53 in magnitude, and else the mark 1.1.
 abbrev pub number_tree : json.Num → Tree
@@ -38,44 +39,46 @@ abbrev mutual
   members_in json.no_members = no_members
   members_in (json.member k d ms) = member k (tree_of d) (members_in ms)
 
--- How the byte after this one stands to the strings of a text: a quote begins and ends one, and a backslash in one
--- escapes the byte after it (RFC 8259, section 7).
-abbrev pub next : Stand → ℕ → Stand
-next Outside x = if x == 34 then Inside else Outside
-next Inside x = if x == 34 then Outside else (if x == 92 then Escaped else Inside)
-next Escaped x = Inside
-
--- The byte is a digit outside strings.
-abbrev pub is_digit_at : Stand → ℕ → Bool
-is_digit_at Outside x = is_ascii_digit x
-is_digit_at _ x = false
-
--- A digit stands outside strings, so the text has a number.
-abbrev pub has_digit : Stand → List ℕ → Bool
-has_digit p [] = false
-has_digit p (x ∷ xs) = is_digit_at p x || has_digit (next p x) xs
-
--- A tree; or no JSON text; or a text with a number, which isn't built yet.
+-- A tree; or no JSON text; or the byte of a number that isn't accepted; or the place of a mark that stands elsewhere than at
+-- `@version`.
 pub data Reading : Type 0 where
   reads : Tree → Reading
   no_json : Reading
-  not_built : Reading
+  number_at : ℕ → Reading
+  version_at : List Step → Reading
 
--- What a text reads as, given whether it has a digit outside strings, and what `serde_json` reads of it.
-abbrev pub reading_of : Bool → Option json.Data → Reading
-reading_of digits None = no_json
-reading_of true (Some d) = not_built
-reading_of false (Some d) = reads (tree_of d)
+-- What a tree reads as, given the first place of a mark that stands elsewhere.
+abbrev pub marked : Option (List Step) → Tree → Reading
+marked None t = reads t
+marked (Some place) t = version_at place
 
--- What bytes read as. JSON text is in UTF-8 (RFC 8259, section 8.1).
+-- What a tree reads as, given the byte of the first number that isn't accepted.
+abbrev pub gated : Option ℕ → Tree → Reading
+gated None t = marked (misplaced t) t
+gated (Some at) t = number_at at
+
+-- What a text reads as, given that byte, and what `serde_json` reads of it.
+abbrev pub reading_of : Option ℕ → Option json.Data → Reading
+reading_of refused None = no_json
+reading_of refused (Some d) = gated refused (tree_of d)
+
+-- What bytes read as. JSON text is in UTF-8 (RFC 8259, section 8.1). Syntax is tried first, then the numbers, then the places
+-- of the mark.
 unfoldable pub reading : List ℕ → Reading
-reading bytes = if is_utf8 bytes then reading_of (has_digit Outside bytes) (read bytes) else no_json
+reading bytes = if is_utf8 bytes then reading_of (refused_number bytes) (read bytes) else no_json
 
 -- When each refusal may come: `OutOfMemory` at any time.
 abbrev pub Refuses : ReadRefusal → Reading → Type 0
 Refuses Syntax r = r ≡ no_json
-Refuses NotBuilt r = r ≡ not_built
+Refuses (Number at) r = r ≡ number_at at
+Refuses (VersionNumber place) r = r ≡ version_at place
 Refuses OutOfMemory r = ⊤
+
+-- What a refusal says of the numbers of the text: `Number`, that one isn't accepted, and `VersionNumber`, that each is.
+abbrev pub SaysOfNumbers : ReadRefusal → Bool → Type 0
+SaysOfNumbers (Number at) accepted = accepted ≡ false
+SaysOfNumbers (VersionNumber place) accepted = accepted ≡ true
+SaysOfNumbers _ accepted = ⊤
 
 -- The tree of a value of `serde_json`.
 abbrev pub value_tree : Value → Tree

@@ -1,5 +1,5 @@
 // A place in a document.
-ghost use Rattle.std.specs.Prelude.{◌≡◌, [], ◌∷◌, ◌++◌, length, OnOk, OnErr, slice_get};
+ghost use Rattle.std.specs.Prelude.{◌≡◌, [], ◌∷◌, ◌++◌, length, IfOk, OnOk, OnErr, slice_get};
 ghost use Rattle.std.specs.Option.{option_copied};
 
 use crate::string::Text;
@@ -7,7 +7,7 @@ use std::alloc::{AllocError, Global};
 use std::marker::Model;
 
 /// One step on the way from a document's root to a value in it.
-#[derive(Drop)]
+#[derive(Debug, Drop)]
 pub enum Step {
     /// To the value of this key of an object.
     Key(Text),
@@ -16,7 +16,7 @@ pub enum Step {
 }
 
 /// The way from a document's root to a value in it. The root's is empty.
-#[derive(Drop)]
+#[derive(Debug, Drop)]
 pub struct Place {
     steps: Vec<Step>,
 }
@@ -68,5 +68,14 @@ impl Place {
     {
         self.steps.push(step)?;
         Ok(())
+    }
+
+    /// The place with this step in front: where its value stands, seen from one level further out.
+    pub(crate) fn under(self, step: Step) -> Result<Place, AllocError>
+        ensures { IfOk result (λ p. p ≡ step ∷ self) }
+    {
+        let Place { mut steps } = self;
+        steps.insert(0, step)?;
+        Ok(Place { steps })
     }
 }

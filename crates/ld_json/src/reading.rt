@@ -1,21 +1,34 @@
 // Reading a text.
-ghost use Rattle.std.specs.Prelude.{◌≡◌, IfOk, MatchResult, map};
+ghost use Rattle.std.specs.Prelude.{◌≡◌, true, IfOk, MatchResult, map};
 ghost use Rattle.serde_json.specs.View.{number_view};
 ghost use Rattle.ld_json.specs.View.{view};
-ghost use Rattle.ld_json.specs.Read.{reading, reads, Refuses, has_digit, is_digit_at, next, number_tree, value_tree, value_member};
+ghost use Rattle.ld_json.specs.Numbers.{are_accepted};
+ghost use Rattle.ld_json.specs.Read.{reading, reads, Refuses, SaysOfNumbers, number_tree, value_tree, value_member};
 
+use crate::location::Place;
+use crate::marks::misplaced;
+use crate::numbers::refused_number;
 use crate::string::Text;
 use crate::value::{Members, Tree, Trees};
 use serde_json::{Map, Number, Value};
 use std::alloc::{AllocError, Global};
 
 /// Why a text gives no tree.
-#[derive(Clone, Copy, Debug, PartialEq, Eq)]
+#[derive(Debug, Drop)]
 pub enum ReadRefusal {
     /// The bytes are no JSON text (RFC 8259), no UTF-8, or nested more than 127 deep.
     Syntax,
-    /// A number stands in the text. Numbers aren't built yet.
-    NotBuilt,
+    /// A number is neither `0`, nor `1.1`, nor a whole number of a magnitude of at most 9,007,199,254,740,992 without a
+    /// zero in front.
+    Number {
+        /// The place of the first byte, counted from 0, of the first such number.
+        at: u64,
+    },
+    /// The number 1.1 stands elsewhere than as the value of a key `@version`.
+    VersionNumber {
+        /// The first place where it does, in the order of keys and items.
+        place: Place,
+    },
     /// Memory was refused.
     OutOfMemory,
 }
@@ -34,11 +47,14 @@ impl From<AllocError> for ReadRefusal {
 ///
 /// # Errors
 ///
-/// `Syntax` where the bytes are no JSON text; else `NotBuilt` where a digit stands outside strings. Neither comes in any
-/// other case. `OutOfMemory` where memory is refused.
+/// In this order: `Syntax` exactly where the bytes are no JSON text; `Number` exactly where a number outside strings isn't
+/// accepted, with the first one's place; `VersionNumber` exactly where the number 1.1 stands elsewhere than as the value
+/// of a key `@version`, with the first place. `OutOfMemory` where memory is refused.
 pub fn read_tree(alloc: Global, bytes: &[u8]) -> Result<Tree, ReadRefusal>
-    ensures { MatchResult result (λ t. reading bytes.now ≡ reads (view t))
+    ensures answer { MatchResult result (λ t. reading bytes.now ≡ reads (view t))
         (λ e. Refuses e (reading bytes.now)) }
+    ensures numbers { MatchResult result (λ _. are_accepted bytes.now ≡ true)
+        (λ e. SaysOfNumbers e (are_accepted bytes.now)) }
 {
     let value = match Value::from_slice(alloc, bytes) {
         Ok(value) => value,
@@ -49,63 +65,13 @@ pub fn read_tree(alloc: Global, bytes: &[u8]) -> Result<Tree, ReadRefusal>
             return Err(ReadRefusal::Syntax);
         }
     };
-    if has_digit_outside(bytes) {
-        return Err(ReadRefusal::NotBuilt);
+    if let Some(at) = refused_number(bytes) {
+        return Err(ReadRefusal::Number { at });
     }
-    Ok(tree(alloc, value)?)
-}
-
-/// How a byte of a JSON text stands to the strings in it.
-#[derive(Clone, Copy, Debug, PartialEq, Eq)]
-enum Stand {
-    /// Outside strings.
-    Outside,
-    /// Inside a string.
-    Inside,
-    /// Inside a string, right after a backslash that escapes it.
-    Escaped,
-}
-
-/// Whether a digit stands outside strings.
-fn has_digit_outside(bytes: &[u8]) -> bool
-    ensures { result ≡ has_digit Stand.Outside bytes.now }
-{
-    let mut stand = Stand::Outside;
-    for byte in bytes {
-        if is_digit(stand, *byte) {
-            return true;
-        }
-        stand = next_stand(stand, *byte);
-    }
-    false
-}
-
-fn is_digit(stand: Stand, byte: u8) -> bool
-    ensures { result ≡ is_digit_at stand byte }
-{
-    match stand {
-        Stand::Outside => byte.is_ascii_digit(),
-        _ => false,
-    }
-}
-
-fn next_stand(stand: Stand, byte: u8) -> Stand
-    ensures { result ≡ next stand byte }
-{
-    match stand {
-        Stand::Outside => if byte == b'"' {
-            Stand::Inside
-        } else {
-            Stand::Outside
-        },
-        Stand::Inside => if byte == b'"' {
-            Stand::Outside
-        } else if byte == b'\\' {
-            Stand::Escaped
-        } else {
-            Stand::Inside
-        },
-        Stand::Escaped => Stand::Inside,
+    let tree = tree(alloc, value)?;
+    match misplaced(alloc, &tree)? {
+        Some(place) => Err(ReadRefusal::VersionNumber { place }),
+        None => Ok(tree),
     }
 }
 

@@ -8,7 +8,7 @@ use std::cmp::Ordering;
 use std::marker::Model;
 
 /// A text, seen by contracts as the bytes of its UTF-8.
-#[derive(Drop)]
+#[derive(Debug, Drop)]
 pub struct Text {
     string: String,
 }

@@ -3,72 +3,138 @@ use std::alloc::{AllocError, Global};
 use std::cmp::Ordering;
 use std::test::Fail;
 
-// What a text reads as, written back.
-fn rewritten(alloc: Global, bytes: &[u8]) -> Result<Vec<u8>, ReadRefusal> {
-    let tree = read_tree(alloc, bytes)?;
-    Ok(text_of(alloc, &tree)?)
+// What a text reads as, written back; or the refusal in a word, with its byte or its place.
+fn rewritten(alloc: Global, bytes: &[u8]) -> Result<String, AllocError> {
+    match read_tree(alloc, bytes) {
+        Ok(tree) => match String::from_utf8(text_of(alloc, &tree)?) {
+            Ok(text) => Ok(text),
+            Err(_) => String::from_str(alloc, "no UTF-8"),
+        },
+        Err(ReadRefusal::Syntax) => String::from_str(alloc, "syntax"),
+        Err(ReadRefusal::Number { at }) => format!(in alloc; "byte {at}"),
+        Err(ReadRefusal::VersionNumber { place }) => {
+            let pointer = pointer_of(alloc, &place)?;
+            format!(in alloc; "version {}", pointer.as_str())
+        }
+        Err(ReadRefusal::OutOfMemory) => Err(AllocError),
+    }
 }
 
 #[test]
 fn a_text_reads_and_writes_back_or_is_refused(rt: HostRuntime) -> Result<(), Fail> {
-    let plain = br#"[{"@id":"http://e/a","http://e/p":[{"@value":"v"}]}]"#.as_slice();
-    let syntax = Err(ReadRefusal::Syntax);
-    let not_built = Err(ReadRefusal::NotBuilt);
+    let plain = r#"[{"@id":"http://e/a","http://e/p":[{"@value":"v"}]}]"#;
     for (name, text, want) in [
-        ("a node", plain, Ok(plain)),
-        ("white space", b" [ true ,\r\n\tnull ] ", Ok(b"[true,null]")),
+        ("a node", plain.as_bytes(), plain),
+        ("white space", b" [ true ,\r\n\tnull ] ", "[true,null]"),
         (
             "unordered keys",
             br#"{"b":{},"a":false,"":[]}"#,
-            Ok(br#"{"":[],"a":false,"b":{}}"#),
+            r#"{"":[],"a":false,"b":{}}"#,
         ),
         (
             "a repeated key",
             br#"{"a":"x","b":"y","a":"z"}"#,
-            Ok(br#"{"a":"z","b":"y"}"#),
+            r#"{"a":"z","b":"y"}"#,
         ),
         (
             "short escapes",
             br#""\b\t\n\f\r\"\\\/""#,
-            Ok(br#""\b\t\n\f\r\"\\/""#),
+            r#""\b\t\n\f\r\"\\/""#,
         ),
         (
             "long escapes",
             br#""\u0000\u001F\u007f\u00e9""#,
-            Ok(b"\"\\u0000\\u001f\x7f\xc3\xa9\""),
+            "\"\\u0000\\u001f\x7f\u{e9}\"",
         ),
         (
             "a pair of surrogates",
             br#""\ud834\udd1e""#,
-            Ok(b"\"\xf0\x9d\x84\x9e\""),
+            "\"\u{1d11e}\"",
         ),
-        ("a digit in a string", br#"["1"]"#, Ok(br#"["1"]"#)),
-        ("a digit in a key", br#"{"1":"a"}"#, Ok(br#"{"1":"a"}"#)),
-        (
-            "a digit after an escaped quote",
-            br#"["\"1"]"#,
-            Ok(br#"["\"1"]"#),
-        ),
-        (
-            "a number after an escaped backslash",
-            br#"["\\",1]"#,
-            not_built,
-        ),
-        ("a number", b"[1]", not_built),
-        ("a negative number", b"-0.5e3", not_built),
-        ("no end after a number", b"[1", syntax),
-        ("nothing", b"", syntax),
-        ("no end", b"[", syntax),
-        ("a second value", b"[] []", syntax),
-        ("a comma too many", b"[true,]", syntax),
-        ("half a pair of surrogates", br#""\ud834""#, syntax),
-        ("no UTF-8", b"\"\xff\"", syntax),
-        ("a byte order mark", b"\xef\xbb\xbf[]", syntax),
+        ("nothing", b"", "syntax"),
+        ("no end", b"[", "syntax"),
+        ("a second value", b"[] []", "syntax"),
+        ("a comma too many", b"[true,]", "syntax"),
+        ("half a pair of surrogates", br#""\ud834""#, "syntax"),
+        ("no UTF-8", b"\"\xff\"", "syntax"),
+        ("a byte order mark", b"\xef\xbb\xbf[]", "syntax"),
     ] {
-        match rewritten(rt.alloc(), text) {
-            Ok(got) => assert_eq!(rt; Ok(got.as_slice()), want, "{name}"),
-            Err(refusal) => assert_eq!(rt; Err(refusal), want, "{name}"),
-        }
+        let got = rewritten(rt.alloc(), text)?;
+        assert_eq!(rt; got.as_str(), want, "{name}");
+    }
+    Ok(())
+}
+
+#[test]
+fn a_number_is_accepted_or_named_by_its_first_byte(rt: HostRuntime) -> Result<(), Fail> {
+    for (text, want) in [
+        ("0", "0"),
+        ("[-1,2 ]", "[-1,2]"),
+        (
+            "[9007199254740992,-9007199254740992]",
+            "[9007199254740992,-9007199254740992]",
+        ),
+        ("9007199254740993", "byte 0"),
+        ("[-9007199254740993]", "byte 1"),
+        ("[100000000000000000000]", "byte 1"),
+        ("[1.5]", "byte 1"),
+        ("[0,-0]", "byte 3"),
+        ("1e3", "byte 0"),
+        ("[1E3]", "byte 1"),
+        ("1.10", "byte 0"),
+        ("-1.1", "byte 0"),
+        ("1.1e0", "byte 0"),
+        ("01", "syntax"),
+        ("[1", "syntax"),
+        ("[1.5,", "syntax"),
+        (r#"["1.5"]"#, r#"["1.5"]"#),
+        (r#"{"1.5":true}"#, r#"{"1.5":true}"#),
+        (r#"["\"1.5"]"#, r#"["\"1.5"]"#),
+        (r#"["\\",1.5]"#, "byte 6"),
+        (r#"{"a":1.1,"b":1.5}"#, "byte 13"),
+        (
+            r#"{"@id":"http://e/a","http://e/p":9007199254740993}"#,
+            "byte 33",
+        ),
+    ] {
+        let got = rewritten(rt.alloc(), text.as_bytes())?;
+        assert_eq!(rt; got.as_str(), want, "{text}");
+    }
+    Ok(())
+}
+
+#[test]
+fn the_version_number_stands_only_at_its_key(rt: HostRuntime) -> Result<(), Fail> {
+    for (text, want) in [
+        (r#"{"@version":1.1}"#, r#"{"@version":1.1}"#),
+        (r#"[{"a":{"@version":1.1}}]"#, r#"[{"a":{"@version":1.1}}]"#),
+        ("1.1", "version the root"),
+        ("[1.1]", "version /0"),
+        (r#"[true,{"b":[1.1]}]"#, "version /1/b/0"),
+        (r#"{"@version":[1.1]}"#, "version /@version/0"),
+        (r#"{"b":1.1,"a":1.1}"#, "version /a"),
+        (r#"{"a/b":{"m~n":1.1}}"#, "version /a~1b/m~0n"),
+        (r#"{"~1":{"":1.1}}"#, "version /~01/"),
+    ] {
+        let got = rewritten(rt.alloc(), text.as_bytes())?;
+        assert_eq!(rt; got.as_str(), want, "{text}");
+    }
+    Ok(())
+}
+
+#[test]
+fn the_weight_is_the_number_of_values(rt: HostRuntime) -> Result<(), Fail> {
+    for (text, want) in [
+        ("null", 1),
+        ("[]", 1),
+        (r#"["a",[],0]"#, 4),
+        (r#"{"a":{"b":true,"c":[null]},"d":{}}"#, 6),
+    ] {
+        assert_eq!(rt;
+            weight(&read_tree(rt.alloc(), text.as_bytes())?),
+            want,
+            "{text}"
+        );
     }
     Ok(())
 }
@@ -86,9 +152,9 @@ fn nested(alloc: Global, depth: usize) -> Result<Vec<u8>, AllocError> {
 #[test]
 fn a_text_may_be_127_deep(rt: HostRuntime) -> Result<(), Fail> {
     let deep = nested(rt.alloc(), 127)?;
-    assert_eq!(rt; rewritten(rt.alloc(), &deep), Ok(nested(rt.alloc(), 127)?));
+    assert_eq!(rt; rewritten(rt.alloc(), &deep)?.as_bytes(), deep.as_slice());
     let deeper = nested(rt.alloc(), 128)?;
-    assert_eq!(rt; rewritten(rt.alloc(), &deeper), Err(ReadRefusal::Syntax));
+    assert_eq!(rt; rewritten(rt.alloc(), &deeper)?.as_str(), "syntax");
     Ok(())
 }
 

@@ -1,3 +1,4 @@
 pub mod PlainDocument
 pub mod Nodes
 pub mod PlainLemmas
+pub mod Says

@@ -1,14 +1,23 @@
 -- The line and the number of each status.
-use Rattle.std.specs.Prelude.{ℕ, List, [], codes}
-use Rattle.ld_run.specs.declared.status.Refusal.TheVariants.{Syntax, NotBuilt}
+use Rattle.std.specs.Prelude.{ℕ, List, [], ◌∷◌, ◌++◌, codes}
+use Rattle.std.specs.Fmt.{decimal}
+use Rattle.ld_json.specs.Pointer.{pointer}
+use Rattle.ld_run.specs.declared.status.Refusal.{Refusal}
+use Rattle.ld_run.specs.declared.status.Refusal.TheVariants.{Syntax, Number, VersionNumber, NotBuilt}
 use Rattle.ld_run.specs.declared.status.Status.{Status}
 use Rattle.ld_run.specs.declared.status.Status.TheVariants.{Done, Refused, Usage, ReadFault, WriteFault, TooLarge, OutOfMemory}
+
+-- The line of a refusal: a number by its byte, a place by its pointer.
+abbrev pub refusal_line : Refusal → List ℕ
+refusal_line Syntax = codes "error: syntax\n"
+refusal_line (Number at) = codes "error: number at byte " ++ (decimal at ++ 10 ∷ [])
+refusal_line (VersionNumber place) = codes "error: version number at " ++ (pointer place ++ 10 ∷ [])
+refusal_line NotBuilt = codes "error: not built\n"
 
 -- The line on the error output.
 abbrev pub line_of : Status → List ℕ
 line_of Done = []
-line_of (Refused Syntax) = codes "error: syntax\n"
-line_of (Refused NotBuilt) = codes "error: not built\n"
+line_of (Refused r) = refusal_line r
 line_of Usage = codes "error: usage\n"
 line_of ReadFault = codes "error: read fault\n"
 line_of WriteFault = codes "error: write fault\n"

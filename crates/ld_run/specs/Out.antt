@@ -8,9 +8,9 @@ use Rattle.ld_model.specs.CompactText.{compact}
 use Rattle.ld_model.specs.Plain.{is_plain}
 use Rattle.ld_model.specs.NodeMap.{generate}
 use Rattle.ld_model.specs.Flatten.{flatten}
-use Rattle.ld_json.specs.Read.{Reading, reads, no_json, not_built, reading}
+use Rattle.ld_json.specs.Read.{Reading, reads, no_json, number_at, version_at, reading}
 use Rattle.ld_run.specs.declared.status.Refusal.{Refusal}
-use Rattle.ld_run.specs.declared.status.Refusal.TheVariants.{Syntax, NotBuilt}
+use Rattle.ld_run.specs.declared.status.Refusal.TheVariants.{Syntax, Number, VersionNumber, NotBuilt}
 
 -- The bytes to write, or why there are none.
 pub data Out : Type 0 where
@@ -37,7 +37,8 @@ flat_tree t = if is_plain t then bytes (flat_text (items_of t)) else refused Not
 
 abbrev pub flat_reading : Reading → Out
 flat_reading no_json = refused Syntax
-flat_reading not_built = refused NotBuilt
+flat_reading (number_at at) = refused (Number at)
+flat_reading (version_at place) = refused (VersionNumber place)
 flat_reading (reads t) = flat_tree t
 
 -- What flattening an input gives.

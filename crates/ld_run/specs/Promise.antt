@@ -90,3 +90,7 @@ Wrote Done b out err same = Appends out.old out.new b × IsFinished out.finished
 Wrote WriteFault b out err same =
     AppendsFront out.old out.new b × HasRisen out × AppendsFront err.old err.new (line_of WriteFault) × ((HasRisen err → ⊥) → SaysLine WriteFault err)
 Wrote _ b out err same = ⊥
+
+-- The line of a status, of which it appended some front, was said or couldn't be.
+abbrev pub SaidAs : Status → Status → Sunk → Type 0
+SaidAs result status err = Said result status err × AppendsFront err.old err.new (line_of status)

@@ -20,7 +20,7 @@ use node_ops::{MapStop, NodeMap, node_map};
 use std::alloc::{AllocError, Global};
 
 /// Why there is nothing to write.
-#[derive(Clone, Copy, Debug, PartialEq, Eq)]
+#[derive(Debug, Drop)]
 pub(crate) enum Stop {
     Refused(Refusal),
     Usage,
@@ -97,7 +97,10 @@ fn read(alloc: Global, bytes: &[u8]) -> Result<Tree, Stop>
     match read_tree(alloc, bytes) {
         Ok(tree) => Ok(tree),
         Err(ReadRefusal::Syntax) => Err(Stop::Refused(Refusal::Syntax)),
-        Err(ReadRefusal::NotBuilt) => Err(Stop::Refused(Refusal::NotBuilt)),
+        Err(ReadRefusal::Number { at }) => Err(Stop::Refused(Refusal::Number { at })),
+        Err(ReadRefusal::VersionNumber { place }) => {
+            Err(Stop::Refused(Refusal::VersionNumber { place }))
+        }
         Err(ReadRefusal::OutOfMemory) => Err(Stop::OutOfMemory),
     }
 }

@@ -10,7 +10,7 @@ mod run;
 mod status;
 
 pub use run::run_alone;
-pub use status::{Refusal, Status};
+pub use status::{OUT_OF_MEMORY, Refusal, Status};
 
 #[cfg(test)]
 mod tests;

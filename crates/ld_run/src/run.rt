@@ -4,12 +4,12 @@ ghost use Rattle.std.specs.Io.KnownBytes.{IsAtEnd};
 ghost use Rattle.ld_io.specs.Faults.{Rose};
 ghost use Rattle.ld_run.specs.Out.{Out, words_of, is_order, due};
 ghost use Rattle.ld_run.specs.Stops.{status_of_stop, IsDueStop, CountsStop};
-ghost use Rattle.ld_run.specs.Promise.{sunk, IsDone, IsRefused, SaysLine, WritesFront, OutStays, HasRisen, SaysFront, IsDueStatus, Said, Wrote};
+ghost use Rattle.ld_run.specs.Promise.{sunk, IsDone, IsRefused, SaysLine, WritesFront, OutStays, HasRisen, SaysFront, IsDueStatus, SaidAs, Wrote};
 ghost use Rattle.ld_io.specs.Sinks.{AppendsFront};
 ghost use Rattle.ld_run.specs.Lines.{line_of};
 
 use crate::document::{Stop, flattened_text};
-use crate::status::Status;
+use crate::status::{OUT_OF_MEMORY, Status, WRITE_FAULT};
 use ld_io::{Folder, ReadStop, Sink, Source, read_to_end, write_and_finish};
 use std::alloc::Global;
 
@@ -27,7 +27,10 @@ use std::alloc::Global;
 /// - `ReadFault` only where the source's count of faults rose.
 /// - `TooLarge` where the input has more than 268,435,456 bytes.
 /// - `Refused(Syntax)` where the input is no JSON text.
-/// - `Refused(NotBuilt)` where it is one, but a number stands in it or it isn't plain.
+/// - `Refused(Number { at })` where it is one, but a number in it isn't accepted; `at` is the first one's first byte.
+/// - `Refused(VersionNumber { place })` where all are, but the number 1.1 stands elsewhere than as the value of a key
+///   `@version`; `place` is the first such place.
+/// - `Refused(NotBuilt)` where it reads, but isn't plain.
 /// - `WriteFault` only where the count of faults of `out` or of `err` rose.
 /// - `OutOfMemory` where memory was refused.
 pub fn run_alone<S: Source, F: Folder, K: Sink, E: Sink>(
@@ -71,7 +74,7 @@ pub fn run_alone<S: Source, F: Folder, K: Sink, E: Sink>(
     let _ = folder;
     match due_text(alloc, words, source) {
         Ok(bytes) => write_text(bytes.as_slice(), out, err),
-        Err(stop) => say(status_of(stop), err),
+        Err(stop) => say(alloc, status_of(stop), err),
     }
 }
 
@@ -119,12 +122,22 @@ fn status_of(stop: Stop) -> Status
     }
 }
 
-/// Says why nothing is written.
-fn say<E: Sink>(status: Status, err: &mut E) -> Status
-    ensures said { Said result status (sunk E.held E.finished E.faults err.old err.new) }
-    ensures front { AppendsFront (E.held err.old) (E.held err.new) (line_of status) }
+/// Says why nothing is written; or that memory was refused, where its line wants some.
+fn say<E: Sink>(alloc: Global, status: Status, err: &mut E) -> Status
+    ensures { SaidAs result status (sunk E.held E.finished E.faults err.old err.new)
+        ⊎ SaidAs result Status.OutOfMemory (sunk E.held E.finished E.faults err.old err.new) }
 {
-    match write_and_finish(err, status.line().as_bytes()) {
+    match status.line(alloc) {
+        Ok(line) => say_line(status, line.as_str(), err),
+        Err(_) => say_line(Status::OutOfMemory, OUT_OF_MEMORY, err),
+    }
+}
+
+fn say_line<E: Sink>(status: Status, line: &str, err: &mut E) -> Status
+    requires { line.now ≡ line_of status }
+    ensures { SaidAs result status (sunk E.held E.finished E.faults err.old err.new) }
+{
+    match write_and_finish(err, line.as_bytes()) {
         Ok(()) => status,
         Err(_) => Status::WriteFault,
     }
@@ -138,7 +151,7 @@ fn write_text<K: Sink, E: Sink>(bytes: &[u8], out: &mut K, err: &mut E) -> Statu
     match write_and_finish(out, bytes) {
         Ok(()) => Status::Done,
         Err(_) => {
-            let _ = say(Status::WriteFault, err);
+            let _ = say_line(Status::WriteFault, WRITE_FAULT, err);
             Status::WriteFault
         }
     }

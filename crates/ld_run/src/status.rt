@@ -1,18 +1,39 @@
 // How a call of the program ends.
-ghost use Rattle.std.specs.Prelude.{◌≡◌};
-ghost use Rattle.ld_run.specs.Lines.{line_of, number_of};
+ghost use Rattle.std.specs.Prelude.{◌≡◌, IfOk};
+ghost use Rattle.std.specs.Cow.{cow_str_bytes};
+ghost use Rattle.ld_run.specs.Lines.{line_of, number_of, refusal_line};
+
+use ld_json::{Place, pointer_of};
+use std::alloc::{AllocError, Global};
+use std::borrow::CowStr;
+
+/// The line of `Status::OutOfMemory`, which needs no memory.
+pub const OUT_OF_MEMORY: &str = "error: out of memory\n";
+
+pub(crate) const WRITE_FAULT: &str = "error: write fault\n";
 
 /// Why an input gives nothing to write.
-#[derive(Clone, Copy, Debug, PartialEq, Eq)]
+#[derive(Debug, Drop)]
 pub enum Refusal {
     /// The input is no JSON text: no UTF-8, not the grammar of RFC 8259, or nested more than 127 deep.
     Syntax,
-    /// The input has what this version doesn't convert yet: a number, or anything that isn't plain.
+    /// A number is neither `0`, nor `1.1`, nor a whole number of a magnitude of at most 9,007,199,254,740,992 without a
+    /// zero in front.
+    Number {
+        /// The place of the first byte, counted from 0, of the first such number.
+        at: u64,
+    },
+    /// The number 1.1 stands elsewhere than as the value of a key `@version`.
+    VersionNumber {
+        /// The first place where it does, in the order of keys and items.
+        place: Place,
+    },
+    /// The input has what this version doesn't convert yet: anything that isn't plain.
     NotBuilt,
 }
 
 /// How a call of the program ended.
-#[derive(Clone, Copy, Debug, PartialEq, Eq)]
+#[derive(Debug, Drop)]
 pub enum Status {
     /// The due bytes were written and the output was finished.
     Done,
@@ -32,8 +53,8 @@ pub enum Status {
 
 impl Status {
     /// The exit status of the program.
-    pub fn number(self) -> u8
-        ensures { result ≡ number_of self }
+    pub fn number(&self) -> u8
+        ensures { result ≡ number_of self.now }
     {
         match self {
             Status::Done => 0,
@@ -46,19 +67,40 @@ impl Status {
         }
     }
 
-    /// The line on the error output, with its line feed; empty for `Done`.
-    pub fn line(self) -> &'static str
-        ensures { result.now ≡ line_of self }
+    /// The line on the error output, with its line feed; empty for `Done`. Only a line with a number or a place in it
+    /// needs memory.
+    pub fn line(&self, alloc: Global) -> Result<CowStr<'static>, AllocError>
+        ensures { IfOk result (λ line. cow_str_bytes line ≡ line_of self.now) }
     {
-        match self {
+        let line = match self {
             Status::Done => "",
-            Status::Refused(Refusal::Syntax) => "error: syntax\n",
-            Status::Refused(Refusal::NotBuilt) => "error: not built\n",
+            Status::Refused(refusal) => return refusal.line(alloc),
             Status::Usage => "error: usage\n",
             Status::ReadFault => "error: read fault\n",
-            Status::WriteFault => "error: write fault\n",
+            Status::WriteFault => WRITE_FAULT,
             Status::TooLarge => "error: input too large\n",
-            Status::OutOfMemory => "error: out of memory\n",
+            Status::OutOfMemory => OUT_OF_MEMORY,
+        };
+        Ok(CowStr::Borrowed(line))
+    }
+}
+
+impl Refusal {
+    fn line(&self, alloc: Global) -> Result<CowStr<'static>, AllocError>
+        ensures { IfOk result (λ line. cow_str_bytes line ≡ refusal_line self.now) }
+    {
+        match self {
+            Refusal::Syntax => Ok(CowStr::Borrowed("error: syntax\n")),
+            Refusal::Number { at } => {
+                let line = format!(in alloc; "error: number at byte {at}\n")?;
+                Ok(CowStr::Owned(line))
+            }
+            Refusal::VersionNumber { place } => {
+                let pointer = pointer_of(alloc, place)?;
+                let line = format!(in alloc; "error: version number at {}\n", pointer.as_str())?;
+                Ok(CowStr::Owned(line))
+            }
+            Refusal::NotBuilt => Ok(CowStr::Borrowed("error: not built\n")),
         }
     }
 }

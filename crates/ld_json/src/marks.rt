@@ -1,0 +1,71 @@
+// Where the number 1.1 stands.
+ghost use Rattle.std.specs.Prelude.{◌≡◌, IfOk};
+ghost use Rattle.ld_model.specs.Tree.{trees_of, members_of};
+ghost use Rattle.ld_json.specs.View.{view, trees_view, members_view};
+ghost use Rattle.ld_json.specs.Marks as marks;
+
+use crate::location::{Place, Step};
+use crate::string::Text;
+use crate::value::Tree;
+use std::alloc::{AllocError, Global};
+
+/// The first place, in the order of keys and items, where the number 1.1 stands elsewhere than as the value of a key
+/// `@version`; None where there is none.
+#[cycle(marks)]
+pub(crate) fn misplaced(alloc: Global, tree: &Tree) -> Result<Option<Place>, AllocError>
+    ensures { IfOk result (λ p. p ≡ marks.misplaced (view tree.now)) }
+{
+    match tree {
+        Tree::OneOne => Ok(Some(Place::new(alloc))),
+        Tree::Items(trees) => misplaced_items(alloc, trees.as_slice()),
+        Tree::Map(members) => misplaced_members(alloc, members.as_slice()),
+        _ => Ok(None),
+    }
+}
+
+#[cycle(marks)]
+fn misplaced_items(alloc: Global, trees: &[Tree]) -> Result<Option<Place>, AllocError>
+    ensures { IfOk result (λ p. p ≡ marks.misplaced_items 0 (trees_of (trees_view trees.now))) }
+{
+    for (number, tree) in trees.iter().enumerate() {
+        if let Some(place) = misplaced(alloc, tree)? {
+            return Ok(Some(place.under(Step::Item(number as u64))?));
+        }
+    }
+    Ok(None)
+}
+
+#[cycle(marks)]
+fn misplaced_members(alloc: Global, members: &[(Text, Tree)]) -> Result<Option<Place>, AllocError>
+    ensures { IfOk result (λ p. p ≡ marks.misplaced_members (members_of (members_view members.now))) }
+{
+    for member in members {
+        if let Some(place) = misplaced_member(alloc, member)? {
+            return Ok(Some(place));
+        }
+    }
+    Ok(None)
+}
+
+#[cycle(marks)]
+fn misplaced_member(alloc: Global, member: &(Text, Tree)) -> Result<Option<Place>, AllocError>
+    ensures { IfOk result (λ p. p ≡ marks.misplaced_member member.now.0 (view member.now.1)) }
+{
+    let (key, tree) = member;
+    if is_version(key, tree) {
+        return Ok(None);
+    }
+    match misplaced(alloc, tree)? {
+        Some(place) => Ok(Some(place.under(Step::Key(key.copy(alloc)?))?)),
+        None => Ok(None),
+    }
+}
+
+fn is_version(key: &Text, tree: &Tree) -> bool
+    ensures { result ≡ marks.is_version key.now (view tree.now) }
+{
+    match tree {
+        Tree::OneOne => key.as_str() == "@version",
+        _ => false,
+    }
+}
