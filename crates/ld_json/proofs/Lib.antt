@@ -2,4 +2,8 @@ pub mod Searches
 pub mod ViewLemmas
 pub mod ReadValues
 pub mod Digits
+pub mod GoodTokens
+pub mod Punctuated
+pub mod GoodWords
+pub mod GrammarNumbers
 pub mod Accepted

@@ -1,9 +1,11 @@
 -- The number tokens of a text, each with the place of its first byte, and which of them are accepted (RFC 8259, sections 2,
 -- 6 and 7).
 use Rattle.std.specs.Prelude.{ℕ, ◌+◌, ◌-◌, ◌*◌, ◌^◌, ◌==◌, ◌||◌, ◌&&◌, List, [], ◌∷◌, ◌++◌, map, Bool, false, nat_lt, nat_le, if◌then◌else◌, Option, Some, None, codes}
-use Rattle.std.specs.List.{list_all, before_first}
+use Rattle.std.specs.List.{list_all, before_first, flat_map}
 use Rattle.std.specs.Char.{is_ascii_digit}
 use Rattle.std.specs.Str.{bytes_eq}
+use Rattle.json.specs.Token.{Token, begin_object, end_object, begin_array, end_array, key, string, number, boolean, null, bad}
+use Rattle.json.specs.Lex.{tokens}
 use Rattle.json.specs.Word.{is_operator, is_space}
 use Rattle.ld_json.specs.declared.numbers.Stand.{Stand}
 use Rattle.ld_json.specs.declared.numbers.Stand.TheVariants.{Outside, Word, Inside, Escaped}
@@ -66,10 +68,27 @@ first_refused (n ∷ ns) = if is_accepted n.1 then first_refused ns else Some n.
 abbrev pub refused_number : List ℕ → Option ℕ
 refused_number bytes = first_refused (numbers Outside 0 bytes)
 
--- The number tokens of a text (RFC 8259, section 6).
+-- The number tokens of a text, by its bytes.
 abbrev pub number_tokens : List ℕ → List (List ℕ)
 number_tokens bytes = map (λ n. n.1) (numbers Outside 0 bytes)
 
--- Each number token of a text is accepted.
+-- The text of a token of the grammar that is a number, and nothing of another.
+abbrev pub token_numbers : Token → List (List ℕ)
+token_numbers begin_object = []
+token_numbers end_object = []
+token_numbers begin_array = []
+token_numbers end_array = []
+token_numbers (key s) = []
+token_numbers (string s) = []
+token_numbers (number s) = s ∷ []
+token_numbers (boolean b) = []
+token_numbers null = []
+token_numbers bad = []
+
+-- The texts of the numbers among some tokens of the grammar.
+abbrev pub numbers_in : List Token → List (List ℕ)
+numbers_in ts = flat_map token_numbers ts
+
+-- Each number among the tokens that the grammar of JSON finds in a text (RFC 8259, section 2) is accepted.
 abbrev pub are_accepted : List ℕ → Bool
-are_accepted bytes = list_all is_accepted (number_tokens bytes)
+are_accepted bytes = list_all is_accepted (numbers_in (tokens bytes))

@@ -22,10 +22,10 @@ returns-in-None-clause-answer c =
     reading-tree c.args.bytes.now c.in-Ok.value (view c.in_ok-tree.tree) None c.in-Ok.ensures.ok.0 c.in-Ok.ensures.ok.1 (grind (arith, common_steps)) c.in_ok-tree.ensures (grind (arith, common_steps))
 
 pub returns-in-Some-clause-numbers : goal.returns-in-Some-clause-numbers
-returns-in-Some-clause-numbers c = accepted c.args.bytes.now (Some c.in-Some.at) (grind (arith, common_steps))
+returns-in-Some-clause-numbers c = accepted c.args.bytes.now (value_view c.in-Ok.value) (Some c.in-Some.at) c.in-Ok.ensures.ok.1 (grind (arith, common_steps))
 
 pub returns-in-Some-2-clause-numbers : goal.returns-in-Some-2-clause-numbers
-returns-in-Some-2-clause-numbers c = accepted c.args.bytes.now None (grind (arith, common_steps))
+returns-in-Some-2-clause-numbers c = accepted c.args.bytes.now (value_view c.in-Ok.value) None c.in-Ok.ensures.ok.1 (grind (arith, common_steps))
 
 pub returns-in-None-clause-numbers : goal.returns-in-None-clause-numbers
-returns-in-None-clause-numbers c = accepted c.args.bytes.now None (grind (arith, common_steps))
+returns-in-None-clause-numbers c = accepted c.args.bytes.now (value_view c.in-Ok.value) None c.in-Ok.ensures.ok.1 (grind (arith, common_steps))
