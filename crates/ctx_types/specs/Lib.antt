@@ -1,0 +1,4 @@
+pub mod Context
+pub mod ContextCode
+pub mod Sorted
+pub mod View
