@@ -28,3 +28,8 @@ term_view t = (t.0, definition_view t.1)
 
 abbrev pub terms_view : List (Text × TermDef) → Terms
 terms_view ts = map term_view ts
+
+-- The terms of a list that has several owners; no list is the empty one.
+abbrev pub table_view : {A : Type 0} → (A → List (Text × TermDef)) → Option A → Terms
+table_view f None = []
+table_view f (Some t) = terms_view (f t)

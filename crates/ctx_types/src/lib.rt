@@ -10,7 +10,9 @@
 mod definition;
 mod shared;
 mod sorted;
+mod terms;
 
 pub use definition::{Side, Slot, TermDef};
 pub use shared::Shared;
 pub use sorted::Sorted;
+pub use terms::Terms;
