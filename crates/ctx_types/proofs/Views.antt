@@ -1,6 +1,5 @@
 -- Look-ups and changes of terms, seen as data.
 use Rattle.std.proofs.Common.{◌≡◌, ℕ, zero, suc, List, [], ◌∷◌, Bool, true, false, cond, refl, Option, Some, None, Ordering, Less, Equal, Greater, sym, ap, ◌∙◌}
-use Rattle.std.specs.Prelude.{slice_get}
 use Rattle.std.specs.Option.{option_map}
 use Rattle.std.specs.Ordering.{match_ordering}
 use Rattle.std.specs.Map.{lookup, remove_entry}
@@ -34,8 +33,3 @@ remove_view test (t ∷ ts) = step (test t.0) (remove_entry test ts) (remove_ent
     step : (b : Bool) (us : List (Text × TermDef)) (vs : Terms) → terms_view us ≡ vs → terms_view (cond b ts (t ∷ us)) ≡ cond b (terms_view ts) (term_view t ∷ vs)
     step true us vs e = refl
     step false us vs e = ap (λ l. term_view t ∷ l) e
-
-pub slice_get_view : (ts : List (Text × TermDef)) (n : ℕ) → slice_get (terms_view ts) n ≡ option_map term_view (slice_get ts n)
-slice_get_view [] n = refl
-slice_get_view (t ∷ ts) zero = refl
-slice_get_view (t ∷ ts) (suc n) = slice_get_view ts n

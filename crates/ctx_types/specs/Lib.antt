@@ -1,4 +1,5 @@
 pub mod Context
 pub mod ContextCode
+pub mod ContextView
 pub mod Sorted
 pub mod View

@@ -7,11 +7,13 @@
 //! the value itself.
 #![tactic(auto)]
 
+mod context;
 mod definition;
 mod shared;
 mod sorted;
 mod terms;
 
+pub use context::{ActiveContext, Previous};
 pub use definition::{Side, Slot, TermDef};
 pub use shared::Shared;
 pub use sorted::Sorted;
