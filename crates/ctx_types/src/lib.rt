@@ -9,12 +9,14 @@
 
 mod context;
 mod definition;
+mod expansion;
 mod shared;
 mod sorted;
 mod terms;
 
 pub use context::{ActiveContext, Previous};
 pub use definition::{Side, Slot, TermDef};
+pub use expansion::{expand_iri, has_keyword_form, is_keyword};
 pub use shared::Shared;
 pub use sorted::Sorted;
 pub use terms::Terms;
