@@ -22,7 +22,13 @@ use std::alloc::{AllocError, Global};
 /// With `vocab` a term stands for its mapping, and a text that is neither a term nor an IRI is put behind the vocabulary
 /// mapping. With `doc_relative` such a text is resolved against the context's base IRI, where it has one. It takes a time
 /// that grows with the text's length and the logarithm of the number of terms.
-pub fn expand_iri(alloc: Global, context: &ActiveContext, text: &str, doc_relative: bool, vocab: bool) -> Result<Option<Text>, AllocError>
+pub fn expand_iri(
+    alloc: Global,
+    context: &ActiveContext,
+    text: &str,
+    doc_relative: bool,
+    vocab: bool,
+) -> Result<Option<Text>, AllocError>
     ensures { IfOk result (λ iri. iri ≡ steps.expand_iri (settings_view context.now) doc_relative vocab text.now) }
 {
     if is_keyword(text) {
@@ -62,7 +68,11 @@ fn has_letters_alone(bytes: &[u8]) -> bool
 }
 
 // The mapping of a term that has this definition, where the term stands for it: steps 4 and 5.
-fn by_definition(alloc: Global, vocab: bool, definition: Option<&TermDef>) -> Result<Option<Option<Text>>, AllocError>
+fn by_definition(
+    alloc: Global,
+    vocab: bool,
+    definition: Option<&TermDef>,
+) -> Result<Option<Option<Text>>, AllocError>
     ensures { IfOk result (λ iri. iri ≡ steps.by_definition vocab (option_map (λ d. definition_view d.now) definition.entry)) }
 {
     match definition {
@@ -81,7 +91,13 @@ fn by_definition(alloc: Global, vocab: bool, definition: Option<&TermDef>) -> Re
 }
 
 // A text for which no term stands: steps 6 to 9.
-fn as_iri(alloc: Global, context: &ActiveContext, text: &str, doc_relative: bool, vocab: bool) -> Result<Text, AllocError>
+fn as_iri(
+    alloc: Global,
+    context: &ActiveContext,
+    text: &str,
+    doc_relative: bool,
+    vocab: bool,
+) -> Result<Text, AllocError>
     ensures { IfOk result (λ iri. iri ≡ steps.as_iri (settings_view context.now) doc_relative vocab text.now) }
 {
     if let Some(iri) = by_colon(alloc, context, text)? {
@@ -103,7 +119,13 @@ fn by_colon(alloc: Global, context: &ActiveContext, text: &str) -> Result<Option
     }
 }
 
-fn by_parts(alloc: Global, context: &ActiveContext, text: &str, prefix: &str, suffix: &str) -> Result<Option<Text>, AllocError>
+fn by_parts(
+    alloc: Global,
+    context: &ActiveContext,
+    text: &str,
+    prefix: &str,
+    suffix: &str,
+) -> Result<Option<Text>, AllocError>
     ensures { IfOk result (λ iri. iri ≡ steps.by_parts (settings_view context.now) text.now (prefix.now, suffix.now)) }
 {
     if is_whole(prefix, suffix) {
@@ -143,7 +165,11 @@ fn is_whole(prefix: &str, suffix: &str) -> bool
     prefix == "_" || suffix.starts_with("//")
 }
 
-fn by_prefix(alloc: Global, suffix: &str, definition: Option<&TermDef>) -> Result<Option<Text>, AllocError>
+fn by_prefix(
+    alloc: Global,
+    suffix: &str,
+    definition: Option<&TermDef>,
+) -> Result<Option<Text>, AllocError>
     ensures { IfOk result (λ iri. iri ≡ steps.by_prefix suffix.now (option_map (λ d. definition_view d.now) definition.entry)) }
 {
     match definition {
@@ -171,7 +197,12 @@ fn by_form(alloc: Global, text: &str) -> Result<Option<Text>, AllocError>
     }
 }
 
-fn by_vocab(alloc: Global, context: &ActiveContext, vocab: bool, text: &str) -> Result<Option<Text>, AllocError>
+fn by_vocab(
+    alloc: Global,
+    context: &ActiveContext,
+    vocab: bool,
+    text: &str,
+) -> Result<Option<Text>, AllocError>
     ensures { IfOk result (λ iri. iri ≡ steps.by_vocab (settings_view context.now) vocab text.now) }
 {
     match &context.vocab {
@@ -186,7 +217,12 @@ fn by_vocab(alloc: Global, context: &ActiveContext, vocab: bool, text: &str) -> 
     }
 }
 
-fn by_base(alloc: Global, base: &Option<Text>, doc_relative: bool, text: &str) -> Result<Text, AllocError>
+fn by_base(
+    alloc: Global,
+    base: &Option<Text>,
+    doc_relative: bool,
+    text: &str,
+) -> Result<Text, AllocError>
     ensures { IfOk result (λ iri. iri ≡ steps.by_base base.now doc_relative text.now) }
 {
     match base {

@@ -100,7 +100,11 @@ impl Terms {
 
     /// Takes a term out with its definition, which it gives without a copy; None where there is no such term. It wants
     /// memory where the terms have another owner, and where memory is refused they stay as they were.
-    pub fn remove(&mut self, alloc: Global, key: &str) -> Result<Option<Shared<TermDef>>, AllocError>
+    pub fn remove(
+        &mut self,
+        alloc: Global,
+        key: &str,
+    ) -> Result<Option<Shared<TermDef>>, AllocError>
         ensures value { IfOk result (λ r. option_map definition_view r ≡ definition_at key.now self.old) }
         ensures ok { OnOk result (self.new ≡ remove_entry (is_at (byte_order key.now)) self.old) }
         ensures err { OnErr result (self.new ≡ self.old) }
@@ -125,7 +129,12 @@ fn term_in(terms: &[(Shared<Text>, Shared<TermDef>)], number: usize) -> Option<(
 }
 
 #[tactic(auto, using(crate::proofs::Views::insert_view))]
-fn set_in(table: &mut Option<Arc<Sorted<Shared<TermDef>>, Global>>, alloc: Global, key: Text, definition: Shared<TermDef>) -> Result<(), AllocError>
+fn set_in(
+    table: &mut Option<Arc<Sorted<Shared<TermDef>>, Global>>,
+    alloc: Global,
+    key: Text,
+    definition: Shared<TermDef>,
+) -> Result<(), AllocError>
     ensures ok { OnOk result (table_view arc_value table.new ≡ insert_entry byte_order (table_view arc_value table.old) key (definition_view definition)) }
     ensures err { OnErr result (table_view arc_value table.new ≡ table_view arc_value table.old) }
 {
@@ -141,7 +150,12 @@ fn set_in(table: &mut Option<Arc<Sorted<Shared<TermDef>>, Global>>, alloc: Globa
 }
 
 // In place where there is one owner, and else in a list of its own.
-fn set_shared(table: &mut Arc<Sorted<Shared<TermDef>>, Global>, alloc: Global, key: Text, definition: Shared<TermDef>) -> Result<(), AllocError>
+fn set_shared(
+    table: &mut Arc<Sorted<Shared<TermDef>>, Global>,
+    alloc: Global,
+    key: Text,
+    definition: Shared<TermDef>,
+) -> Result<(), AllocError>
     ensures ok { OnOk result (arc_value table.new ≡ insert_entry byte_order (arc_value table.old) key definition) }
     ensures err { OnErr result (arc_value table.new ≡ arc_value table.old) }
 {
@@ -155,7 +169,11 @@ fn set_shared(table: &mut Arc<Sorted<Shared<TermDef>>, Global>, alloc: Global, k
 }
 
 #[tactic(auto, using(crate::proofs::Views::lookup_view, crate::proofs::Views::remove_view))]
-fn remove_in(table: &mut Option<Arc<Sorted<Shared<TermDef>>, Global>>, alloc: Global, key: &str) -> Result<Option<Shared<TermDef>>, AllocError>
+fn remove_in(
+    table: &mut Option<Arc<Sorted<Shared<TermDef>>, Global>>,
+    alloc: Global,
+    key: &str,
+) -> Result<Option<Shared<TermDef>>, AllocError>
     ensures value { IfOk result (λ r. option_map definition_view r ≡ definition_at key.now (table_view arc_value table.old)) }
     ensures ok { OnOk result (table_view arc_value table.new ≡ remove_entry (is_at (byte_order key.now)) (table_view arc_value table.old)) }
     ensures err { OnErr result (table_view arc_value table.new ≡ table_view arc_value table.old) }
@@ -166,7 +184,11 @@ fn remove_in(table: &mut Option<Arc<Sorted<Shared<TermDef>>, Global>>, alloc: Gl
     }
 }
 
-fn remove_shared(table: &mut Arc<Sorted<Shared<TermDef>>, Global>, alloc: Global, key: &str) -> Result<Option<Shared<TermDef>>, AllocError>
+fn remove_shared(
+    table: &mut Arc<Sorted<Shared<TermDef>>, Global>,
+    alloc: Global,
+    key: &str,
+) -> Result<Option<Shared<TermDef>>, AllocError>
     ensures value { IfOk result (λ r. r ≡ lookup (is_at (byte_order key.now)) (arc_value table.old)) }
     ensures ok { OnOk result (arc_value table.new ≡ remove_entry (is_at (byte_order key.now)) (arc_value table.old)) }
     ensures err { OnErr result (arc_value table.new ≡ arc_value table.old) }
