@@ -1,8 +1,9 @@
 // Active contexts.
-ghost use Rattle.std.specs.Prelude.{◌≡◌, IfOk, ◌∷◌};
+ghost use Rattle.std.specs.Prelude.{◌≡◌, IfOk, IfSome};
+ghost use Rattle.std.specs.Arc.{arc_value};
 ghost use Rattle.std.specs.Option.{option_map};
 ghost use Rattle.ctx_types.specs.Context.{initial};
-ghost use Rattle.ctx_types.specs.ContextView.{context_view, contexts_view};
+ghost use Rattle.ctx_types.specs.ContextView.{context_view, contexts_view, earlier_of};
 
 use crate::definition::Side;
 use crate::terms::Terms;
@@ -34,7 +35,6 @@ pub struct ActiveContext {
 /// A previous context, which several contexts may have. Contracts see it as its settings, and behind them those of the
 /// contexts that came before it.
 #[cycle(context)]
-#[derive(Drop)]
 pub struct Previous {
     inner: Arc<ActiveContext, Global>,
 }
@@ -58,6 +58,28 @@ impl Model for Previous {
     ghost size = { length };
 
     ghost size_decreases = { λ a h. Prim.grind (arith, length-append) };
+}
+
+// A loop, so that a long row of contexts is let go without a deep stack.
+impl Drop for Previous {
+    fn drop(mut self) {
+        loop {
+            match self {
+                Previous { inner } => match previous_of_last(inner) {
+                    None => return,
+                    Some(previous) => self = previous,
+                },
+            }
+        }
+    }
+}
+
+// Gives up one owner of a context. Where it was the last, the context goes and its previous one is given.
+fn previous_of_last(inner: Arc<ActiveContext, Global>) -> Option<Previous>
+    ensures { IfSome result (λ p. earlier_of (arc_value inner).previous ≡ p) }
+{
+    let ActiveContext { previous, .. } = Arc::into_inner(inner)?;
+    previous
 }
 
 impl Previous {
