@@ -20,3 +20,6 @@ pub use expansion::{expand_iri, has_keyword_form, is_keyword};
 pub use shared::Shared;
 pub use sorted::Sorted;
 pub use terms::Terms;
+
+#[cfg(test)]
+mod tests;
