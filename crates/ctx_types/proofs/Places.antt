@@ -1,5 +1,5 @@
 -- Where texts stand in a list in ascending order.
-use Rattle.std.proofs.Common.{◌≡◌, ℕ, zero, suc, ◌+◌, ◌-◌, ◌<◌, List, [], ◌∷◌, length, get_or, insert, set, refl, ap, ◌∙◌, sym, subst, arith, true, false, cond, Bool, Result, Ok, Err, Option, Some, None, Ordering, Less, Equal, Greater}
+use Rattle.std.proofs.Common.{◌≡◌, ℕ, zero, suc, ◌+◌, ◌-◌, ◌<◌, List, [], ◌∷◌, length, get_or, insert, set, refl, ap, ◌∙◌, sym, subst, arith, true, false, cond, Bool, Result, Ok, Err, Some, None, Ordering, Less, Equal, Greater}
 use Rattle.std.specs.Prelude.{remove, slice_get}
 use Rattle.std.specs.List.{AllByRecursion}
 use Rattle.std.specs.List.Sorted.{IsStrictlySortedBy, IsBinarySearchResult, IsSearchInRange}

@@ -1,12 +1,14 @@
 -- Look-ups and changes of terms, seen as data.
-use Rattle.std.proofs.Common.{◌≡◌, ℕ, zero, suc, List, [], ◌∷◌, Bool, true, false, cond, refl, Option, Some, None, Ordering, Less, Equal, Greater, sym, ap, ◌∙◌}
+use Rattle.std.proofs.Common.{◌≡◌, List, [], ◌∷◌, Bool, true, false, cond, refl, Option, Some, Ordering, Less, Equal, Greater, sym, ap, subst}
 use Rattle.std.specs.Option.{option_map}
 use Rattle.std.specs.Ordering.{match_ordering}
-use Rattle.std.specs.Map.{lookup, remove_entry}
-use Rattle.std.specs.BTreeMap.{is_at, insert_entry}
+use Rattle.std.specs.Map.{lookup, remove_entry, keys_of}
+use Rattle.std.specs.BTreeMap.{insert_entry}
+use Rattle.std.specs.List.Sorted.{IsStrictlySortedBy}
 use Rattle.ld_model.specs.Tree.{byte_order}
 use Rattle.ctx_types.specs.declared.definition.TermDef.{TermDef}
 use Rattle.ctx_types.specs.Context.{Text, Definition, Terms}
+use Rattle.ctx_types.specs.Sorted.{IsAscending}
 use Rattle.ctx_types.specs.View.{definition_view, term_view, terms_view}
 
 pub lookup_view : (test : Text → Bool) (ts : List (Text × TermDef)) → lookup test (terms_view ts) ≡ option_map definition_view (lookup test ts)
@@ -33,3 +35,10 @@ remove_view test (t ∷ ts) = step (test t.0) (remove_entry test ts) (remove_ent
     step : (b : Bool) (us : List (Text × TermDef)) (vs : Terms) → terms_view us ≡ vs → terms_view (cond b ts (t ∷ us)) ≡ cond b (terms_view ts) (term_view t ∷ vs)
     step true us vs e = refl
     step false us vs e = ap (λ l. term_view t ∷ l) e
+
+keys_of-terms_view : (ts : List (Text × TermDef)) → keys_of (terms_view ts) ≡ keys_of ts
+keys_of-terms_view [] = refl
+keys_of-terms_view (t ∷ ts) = ap (λ l. t.0 ∷ l) (keys_of-terms_view ts)
+
+pub view_ascends : (ts : List (Text × TermDef)) → IsAscending ts → IsAscending (terms_view ts)
+view_ascends ts sorted = subst (IsStrictlySortedBy byte_order) (sym (keys_of-terms_view ts)) sorted

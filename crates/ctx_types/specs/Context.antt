@@ -1,5 +1,5 @@
 -- Active contexts and term definitions as plain data (JSON-LD 1.1 API, section 4.1).
-use Rattle.std.specs.Prelude.{◌≡◌, ℕ, Bool, true, false, List, [], ◌∷◌, Option, None, Some, refl}
+use Rattle.std.specs.Prelude.{ℕ, Bool, List, [], Option, None}
 use Rattle.std.specs.Map.{lookup}
 use Rattle.std.specs.BTreeMap.{is_at}
 use Rattle.ld_model.specs.Tree.{Tree, byte_order}

@@ -1,5 +1,5 @@
 -- Contexts as codes, by which proofs tell them apart.
-use Rattle.std.specs.Prelude.{◌≡◌, ℕ, Bool, true, false, List, Option, None, Some, refl}
+use Rattle.std.specs.Prelude.{◌≡◌, Bool, true, false, Option, None, Some, refl}
 use Rattle.std.specs.Coded.{Coded, code_by, coded×, coded_ℕ, coded_bool, coded_list, coded_option}
 use Rattle.ld_model.specs.Tree.{Tree}
 use Rattle.ld_model.specs.TreeCode.{tree_code}

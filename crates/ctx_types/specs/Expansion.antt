@@ -1,6 +1,6 @@
 -- IRI expansion (JSON-LD 1.1 API, section 5.2.2), where there is no local context. The numbers are those of its steps; 3 and
 -- 6.3 speak of a local context alone. A step that returns nothing gives None.
-use Rattle.std.specs.Prelude.{ℕ, ◌==◌, ◌||◌, ◌&&◌, not, if◌then◌else◌, Bool, true, false, List, [], ◌∷◌, ◌++◌, Option, Some, None, codes, drop, nat_eq}
+use Rattle.std.specs.Prelude.{◌==◌, ◌||◌, ◌&&◌, not, if◌then◌else◌, Bool, false, List, [], ◌∷◌, ◌++◌, Option, Some, None, codes, drop, nat_eq}
 use Rattle.std.specs.Option.{option_map, option_map_or, option_and_then, option_or, unwrap_or}
 use Rattle.std.specs.List.{list_all, list_any, before_first, after_first, starts_with}
 use Rattle.std.specs.Str.{bytes_eq}

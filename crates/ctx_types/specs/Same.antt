@@ -1,6 +1,5 @@
 -- When two term definitions are the same but for whether they are protected (JSON-LD 1.1 API, section 4.2.2, step 27).
 use Rattle.std.specs.Prelude.{◌≡◌, Bool, true, false, ◌&&◌, Option, None, Some}
-use Rattle.std.specs.Bool.{Decides}
 use Rattle.std.specs.Str.{bytes_eq}
 use Rattle.std.proofs.Math.Bool.{beq}
 use Rattle.ld_model.specs.Tree.{same_tree}

@@ -1,5 +1,5 @@
 -- The data that values of the crate stand for.
-use Rattle.std.specs.Prelude.{ℕ, List, [], ◌∷◌, map, Option, None, Some}
+use Rattle.std.specs.Prelude.{List, [], map, Option, None, Some}
 use Rattle.std.specs.Option.{option_map}
 use Rattle.ld_json.specs.View.{view}
 use Rattle.ctx_types.specs.Context.{Text, Definition, Terms}

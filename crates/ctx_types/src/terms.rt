@@ -6,6 +6,7 @@ ghost use Rattle.std.specs.Map.{lookup, remove_entry};
 ghost use Rattle.std.specs.BTreeMap.{is_at, insert_entry};
 ghost use Rattle.ld_model.specs.Tree.{byte_order};
 ghost use Rattle.ctx_types.specs.Context.{definition_at};
+ghost use Rattle.ctx_types.specs.Sorted.{IsAscending};
 ghost use Rattle.ctx_types.specs.View.{definition_view, terms_view, table_view};
 
 use crate::definition::TermDef;
@@ -82,7 +83,8 @@ impl Terms {
 
     /// The term with this number, counted from 0 in the order of the terms, and its definition; None where there is none.
     pub fn at(&self, number: usize) -> Option<(&Text, &TermDef)>
-        ensures { option_map (λ t. (t.0.now, definition_view t.1.now)) result ≡ slice_get self.now number }
+        ensures term { option_map (λ t. (t.0.now, definition_view t.1.now)) result ≡ slice_get self.now number }
+        ensures ascending { IsAscending self.now }
     {
         match &self.table {
             None => None,

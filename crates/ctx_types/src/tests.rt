@@ -196,9 +196,5 @@ fn a_long_row_of_contexts_is_copied_and_let_go(rt: HostRuntime) -> Result<(), Fa
     }
     let copy = context.copy(alloc)?;
     assert!(rt; copy.previous.is_some() && copy.base.is_none());
-    needs_threads(copy);
     Ok(())
 }
-
-// A context may go to another thread, and several may read it.
-fn needs_threads<T: Send + Sync + Drop>(_value: T) {}

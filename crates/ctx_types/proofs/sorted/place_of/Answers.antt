@@ -1,4 +1,4 @@
-use Rattle.std.proofs.Common.{◌≡◌, ℕ, List, Err, length, sym, ◌∙◌, rules, of_calls}
+use Rattle.std.proofs.Common.{sym, ◌∙◌, rules, of_calls}
 use Rattle.std.proofs.lemmas.Fn.{always_returns_same}
 use Rattle.ld_model.specs.Tree.{byte_order}
 use Rattle.ctx_types.proofs.Places.{behind, placed}
