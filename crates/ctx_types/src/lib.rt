@@ -1,0 +1,25 @@
+//! Active contexts and their term definitions (JSON-LD 1.1 API, section 4.1), and IRI expansion where there is no local
+//! context (section 5.2).
+//!
+//! An [`ActiveContext`] is copied in a time that does not grow with the number of its terms: [`Terms`] and the previous
+//! contexts have several owners, and terms are copied where one of several owners changes them. Contracts see [`Terms`]
+//! as a list of pairs of term and definition, in strictly ascending order of the terms' bytes, and what is [`Shared`] as
+//! the value itself.
+#![tactic(auto)]
+
+mod context;
+mod definition;
+mod expansion;
+mod shared;
+mod sorted;
+mod terms;
+
+pub use context::{ActiveContext, Previous};
+pub use definition::{Side, Slot, TermDef};
+pub use expansion::{expand_iri, has_keyword_form, is_keyword};
+pub use shared::Shared;
+pub use sorted::Sorted;
+pub use terms::Terms;
+
+#[cfg(test)]
+mod tests;

@@ -1,0 +1,49 @@
+// A value with several owners.
+ghost use Rattle.std.specs.Prelude.{◌≡◌, IfOk};
+
+use std::alloc::{AllocError, Global};
+use std::marker::Model;
+use std::sync::Arc;
+
+/// A value that several owners read, seen by contracts as the value itself.
+#[derive(Drop)]
+pub struct Shared<T> {
+    inner: Arc<T, Global>,
+}
+
+impl<T> Model for Shared<T> {
+    ghost use Rattle.std.specs.Arc.{arc_value};
+
+    ghost Value = { T };
+
+    ghost view = { λ s. arc_value s.inner };
+}
+
+impl<T> Shared<T> {
+    /// The value, with one owner.
+    pub fn new(alloc: Global, value: T) -> Result<Shared<T>, AllocError>
+    where
+        T: Drop,
+        ensures { IfOk result (λ s. s ≡ value) }
+    {
+        Ok(Shared {
+            inner: Arc::new(alloc, value)?,
+        })
+    }
+
+    /// The same value for one owner more, in constant time: it is not copied.
+    pub fn share(&self) -> Result<Shared<T>, AllocError>
+        ensures { IfOk result (λ s. s ≡ self.now) }
+    {
+        Ok(Shared {
+            inner: Arc::try_clone(&self.inner)?,
+        })
+    }
+
+    /// The value, borrowed.
+    pub fn get(&self) -> &T
+        ensures { result.now ≡ self.now }
+    {
+        &self.inner
+    }
+}
