@@ -1,5 +1,5 @@
 -- The nodes of a graph, one at a time.
-use Rattle.std.proofs.Common.{◌≡◌, ℕ, List, [], ◌∷◌, ◌++◌, Bool, true, false, cond, map, filter, append_assoc, refl, sym, ap, ◌∙◌}
+use Rattle.std.proofs.Common.{◌≡◌, ℕ, List, [], ◌∷◌, ◌++◌, true, false, cond, map, filter, append_assoc, refl, ap, ◌∙◌}
 use Rattle.ld_model.specs.Tree.{Tree, Pairs}
 use Rattle.ld_model.specs.Flatten.{has_more, nodes_of}
 

@@ -1,6 +1,6 @@
 -- Entries of a plain document have one member.
 use Rattle.std.proofs.Common.{◌≡◌, ℕ, List, [], ◌∷◌, length, false, refl}
-use Rattle.ld_model.specs.Tree.{Tree, null, truth, whole, one_one, text, array, object, Trees, no_trees, tree, Members, no_members, member, Pairs, members_of}
+use Rattle.ld_model.specs.Tree.{Tree, text, object, Members, member, Pairs, members_of}
 use Rattle.ld_model.specs.Plain.{is_plain_entry}
 
 two_members : (k : List ℕ) (t : Tree) (l : List ℕ) (u : Tree) (ms : Members) → is_plain_entry (object (member k t (member l u ms))) ≡ false

@@ -1,4 +1,4 @@
-use Rattle.std.proofs.Common.{◌≡◌, List, ◌∷◌, ◌++◌, [], sym, ap, ◌∙◌}
+use Rattle.std.proofs.Common.{List, ◌∷◌, ◌++◌, [], sym, ap, ◌∙◌}
 use Rattle.ld_model.specs.Tree.{Tree, array, trees_of}
 use Rattle.ld_model.specs.CompactText.{compact}
 use Rattle.ld_run.specs.Out.{bytes}

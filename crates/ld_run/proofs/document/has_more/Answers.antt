@@ -1,4 +1,4 @@
-use Rattle.std.proofs.Common.{arith, rules}
+use Rattle.std.proofs.Common.{arith}
 use Rattle.std.proofs.lemmas.Grind.{common_steps}
 use Rattle.ld_model.specs.Tree.{member_list-members_of}
 use Rattle.ld_run.proofs.document.has_more.Goals as goal

@@ -1,4 +1,4 @@
-use Rattle.std.proofs.Common.{◌≡◌, sym, ◌∙◌}
+use Rattle.std.proofs.Common.{sym, ◌∙◌}
 use Rattle.ld_json.specs.View.{view}
 use Rattle.ld_run.proofs.PlainDocument.{plain_array}
 use Rattle.ld_run.proofs.document.items_of.Goals as goal

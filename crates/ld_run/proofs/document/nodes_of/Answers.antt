@@ -1,4 +1,4 @@
-use Rattle.std.proofs.Common.{◌≡◌, ◌++◌, ◌∷◌}
+use Rattle.std.proofs.Common.{◌≡◌, ◌++◌}
 use Rattle.ld_model.specs.Flatten.{nodes_of}
 use Rattle.ld_json.specs.View.{view, members_view}
 use Rattle.ld_run.proofs.Nodes.{one_more}
