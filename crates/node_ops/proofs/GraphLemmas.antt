@@ -106,9 +106,3 @@ changed-missing id property f es new missing is =
     let at : member_at id (nodes_view es) ≡ None = member_at-nodes_view id es ∙ ap (option_map as_node) missing in
     let node : node_at id (nodes_view es) ≡ new_node id = ap (node_or_new id) at in
     ap (λ ms. insert_entry byte_order (nodes_view es) id (as_node ms)) (is ∙ ap (with_entries property f) (sym node))
-
--- The nodes so far, with the next one put behind them.
-pub put_behind : (done new : Pairs) (e : String Global × Pairs) (more all : Entries) → IsStrictlySortedBy string_cmp (keys_of all) → done ++ nodes_view (e ∷ more) ≡ nodes_view all → new ≡ insert_entry byte_order done (string_bytes e.0) (as_node e.1) → new ++ nodes_view more ≡ nodes_view all
-put_behind done new e more all sorted left is =
-    let whole : AreAscending (done ++ node_view e ∷ nodes_view more) = subst AreAscending (sym left) (ascending_nodes all sorted) in
-    ap (λ l. l ++ nodes_view more) (is ∙ insert_entry-behind done (node_view e) (nodes_view more) whole) ∙ append_assoc done (node_view e ∷ []) (nodes_view more) ∙ left

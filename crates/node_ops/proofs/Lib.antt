@@ -1,2 +1,4 @@
 pub mod GraphLemmas
 pub mod Plain
+pub mod Once
+pub mod SeenLemmas

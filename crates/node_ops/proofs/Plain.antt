@@ -19,11 +19,11 @@ use Rattle.node_ops.specs.Walk.{id_in, walk_target, walk_entries, walk_property,
 abbrev state : Pairs → Labels → State
 state nodes labels = record { nodes = nodes; labels = labels }
 
-both : (a b : Bool) → (a && b) ≡ true → (a ≡ true) × (b ≡ true)
+pub both : (a b : Bool) → (a && b) ≡ true → (a ≡ true) × (b ≡ true)
 both true b h = (refl, h)
 both false b h = absurd (cc)
 
-same_bytes : (a b : List ℕ) → bytes_eq a b ≡ true → a ≡ b
+pub same_bytes : (a b : List ℕ) → bytes_eq a b ≡ true → a ≡ b
 same_bytes a b h = exact_bytes a b (equal (byte_order a b) (is_eq-slice_cmp a b ∙ h))
   where
     equal : (o : Ordering) → is_eq o ≡ true → o ≡ Equal
@@ -31,7 +31,7 @@ same_bytes a b h = exact_bytes a b (equal (byte_order a b) (is_eq-slice_cmp a b 
     equal Equal h = refl
     equal Greater h = absurd (cc)
 
-bytes_eq-comm : (a b : List ℕ) → bytes_eq b a ≡ bytes_eq a b
+pub bytes_eq-comm : (a b : List ℕ) → bytes_eq b a ≡ bytes_eq a b
 bytes_eq-comm a b = sym (is_eq-slice_cmp b a) ∙ ap is_eq (nat_list_cmp_total.antisymm b a) ∙ reversed (byte_order a b) ∙ is_eq-slice_cmp a b
   where
     reversed : (o : Ordering) → is_eq (ordering_reverse o) ≡ is_eq o
@@ -78,7 +78,7 @@ module _ (id property : List ℕ) (nodes : Pairs) (l : Labels) where
       by_key k s true is plain = reference_entry k s (same_bytes k id_key is) plain
       by_key k s false is plain = value_entry k s is (bytes_eq-comm k id_key ∙ is)
 
-plain_entries : (id property : List ℕ) (es : List Tree) (nodes : Pairs) (l : Labels) → are_plain_entries es ≡ true → entries_into id property es (state nodes l) ≡ state (walk_entries id property es nodes) l
+plain_entries : (id property : List ℕ) (es : List Tree) (nodes : Pairs) (l : Labels) → are_plain_entries es ≡ true → entries_into id property es (state nodes l) ≡ state (walk_entries added id property es nodes) l
 plain_entries id property [] nodes l h = refl
 plain_entries id property (e ∷ es) nodes l h =
     let parts = both (is_plain_entry e) (are_plain_entries es) h in
@@ -88,18 +88,18 @@ array_entries : (t : Tree) → is_plain_array t ≡ true → are_plain_entries (
 array_entries (array ts) h = h
 array_entries _ h = absurd (cc)
 
-plain_property : (id : List ℕ) (m : List ℕ × Tree) (nodes : Pairs) (l : Labels) → has_scheme m.0 ≡ true → is_plain_array m.1 ≡ true → property_into id m (state nodes l) ≡ state (walk_property id m nodes) l
+plain_property : (id : List ℕ) (m : List ℕ × Tree) (nodes : Pairs) (l : Labels) → has_scheme m.0 ≡ true → is_plain_array m.1 ≡ true → property_into id m (state nodes l) ≡ state (walk_property added id m nodes) l
 plain_property id m nodes l iri plain =
     ap (λ p. named_property_into id p (entries_of (Some m.1)) nodes) (named-iri m.0 l iri)
     ∙ plain_entries id m.0 (entries_of (Some m.1)) (changed id m.0 (λ ts. ts) nodes) l (array_entries m.1 plain)
 
-plain_properties : (id : List ℕ) (ms : Pairs) (nodes : Pairs) (l : Labels) → are_plain_members ms ≡ true → properties_into id ms (state nodes l) ≡ state (walk_properties id ms nodes) l
+plain_properties : (id : List ℕ) (ms : Pairs) (nodes : Pairs) (l : Labels) → are_plain_members ms ≡ true → properties_into id ms (state nodes l) ≡ state (walk_properties added id ms nodes) l
 plain_properties id [] nodes l h = refl
 plain_properties id (m ∷ ms) nodes l h =
     let parts = both (is_plain_member m) (are_plain_members ms) h in
-    ap (properties_into id ms) (by_key (bytes_eq m.0 id_key) refl parts.0) ∙ plain_properties id ms (if bytes_eq m.0 id_key then nodes else walk_property id m nodes) l parts.1
+    ap (properties_into id ms) (by_key (bytes_eq m.0 id_key) refl parts.0) ∙ plain_properties id ms (if bytes_eq m.0 id_key then nodes else walk_property added id m nodes) l parts.1
   where
-    by_key : (b : Bool) → bytes_eq m.0 id_key ≡ b → is_plain_member m ≡ true → (if bytes_eq m.0 id_key then state nodes l else property_into id m (state nodes l)) ≡ state (if bytes_eq m.0 id_key then nodes else walk_property id m nodes) l
+    by_key : (b : Bool) → bytes_eq m.0 id_key ≡ b → is_plain_member m ≡ true → (if bytes_eq m.0 id_key then state nodes l else property_into id m (state nodes l)) ≡ state (if bytes_eq m.0 id_key then nodes else walk_property added id m nodes) l
     by_key true is plain = rw is
     by_key false is plain =
         let parts = both (has_scheme m.0) (is_plain_array m.1) (rw is at plain) in
@@ -120,20 +120,20 @@ plain_id (m ∷ ms) t h there =
         subst (λ t. is_iri_text t ≡ true) same (rw back at plain)
     by_key false is plain more = more (rw (is_eq-slice_cmp id_key m.0, is) at there)
 
-plain_node : (ms : Pairs) (o : Option Tree) (nodes : Pairs) (l : Labels) → member_at id_key ms ≡ o → is_some o ≡ true → are_plain_members ms ≡ true → named_item_into (name_of o l) ms nodes ≡ state (walk_node (id_in o) ms nodes) l
+plain_node : (ms : Pairs) (o : Option Tree) (nodes : Pairs) (l : Labels) → member_at id_key ms ≡ o → is_some o ≡ true → are_plain_members ms ≡ true → named_item_into (name_of o l) ms nodes ≡ state (walk_node added (id_in o) ms nodes) l
 plain_node ms None nodes l is some plain = absurd (cc)
 plain_node ms (Some (text s)) nodes l is some plain =
     ap (λ name. named_item_into name ms nodes) (named-iri s l (plain_id ms (text s) plain is)) ∙ plain_properties s ms (with_node s nodes) l plain
 plain_node ms (Some t) nodes l is some plain = absurd (let iri = plain_id ms t plain is in cc)
 
-plain_item : (t : Tree) (nodes : Pairs) (l : Labels) → is_plain_item t ≡ true → item_into t (state nodes l) ≡ state (walk_item t nodes) l
+plain_item : (t : Tree) (nodes : Pairs) (l : Labels) → is_plain_item t ≡ true → item_into t (state nodes l) ≡ state (walk_item added t nodes) l
 plain_item (object ms) nodes l h =
     let parts = both (is_some (member_at id_key (member_list ms))) (are_plain_members (member_list ms)) h in
     plain_node (member_list ms) (member_at id_key (member_list ms)) nodes l refl parts.0 parts.1
 plain_item _ nodes l h = absurd (cc)
 
-pub plain_items : (ts : List Tree) (nodes : Pairs) (l : Labels) → are_plain_items ts ≡ true → items_into ts (state nodes l) ≡ state (walk_items ts nodes) l
+pub plain_items : (ts : List Tree) (nodes : Pairs) (l : Labels) → are_plain_items ts ≡ true → items_into ts (state nodes l) ≡ state (walk_items added ts nodes) l
 plain_items [] nodes l h = refl
 plain_items (t ∷ ts) nodes l h =
     let parts = both (is_plain_item t) (are_plain_items ts) h in
-    ap (items_into ts) (plain_item t nodes l parts.0) ∙ plain_items ts (walk_item t nodes) l parts.1
+    ap (items_into ts) (plain_item t nodes l parts.0) ∙ plain_items ts (walk_item added t nodes) l parts.1

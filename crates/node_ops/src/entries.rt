@@ -1,11 +1,11 @@
 // The entries of one property of one node.
 ghost use Rattle.std.specs.Prelude.{◌≡◌, OnOk, IfOk};
 ghost use Rattle.std.specs.BTreeMap.{is_at};
-ghost use Rattle.std.specs.List.{list_any};
 ghost use Rattle.std.specs.Map.{set_value};
-ghost use Rattle.ld_model.specs.Tree.{AreAscending, byte_order, member_at, same_tree, null};
-ghost use Rattle.ld_model.specs.NodeMap.{added, entries_of, with_entries};
-ghost use Rattle.ld_json.specs.View.{view, trees_view};
+ghost use Rattle.ld_model.specs.Tree.{AreAscending, byte_order, member_at, null};
+ghost use Rattle.ld_model.specs.NodeMap.{entries_of, with_entries};
+ghost use Rattle.ld_json.specs.View.{view};
+ghost use Rattle.node_ops.specs.Once.{appended};
 ghost use Rattle.node_ops.specs.Change.{change_of};
 
 use ld_json::{Members, Tree, Trees};
@@ -16,7 +16,7 @@ use std::alloc::{AllocError, Global};
 pub(crate) enum Change<'a> {
     /// The property's array is made where it is missing.
     Ensure,
-    /// The entry is added, unless an equal one is there.
+    /// The entry is put behind those that are there.
     Add(&'a Tree),
 }
 
@@ -56,25 +56,10 @@ fn take_entries(alloc: Global, node: &mut Members, property: &str) -> Trees
     }
 }
 
-/// The entries with this one at their end, unless an equal one is there.
+/// The entries with this one at their end, also where an equal one is there.
 fn with_entry(alloc: Global, mut entries: Trees, entry: &Tree) -> Result<Trees, AllocError>
-    ensures { IfOk result (λ ts. ts ≡ added (view entry.now) entries) }
+    ensures { IfOk result (λ ts. ts ≡ appended (view entry.now) entries) }
 {
-    if has_entry(entries.as_slice(), entry) {
-        return Ok(entries);
-    }
     entries.push(entry.copy(alloc)?)?;
     Ok(entries)
-}
-
-// A scan: an index beside a long list of entries would replace this body.
-fn has_entry(entries: &[Tree], entry: &Tree) -> bool
-    ensures { result ≡ list_any (same_tree (view entry.now)) (trees_view entries.now) }
-{
-    for other in entries {
-        if entry.same(other) {
-            return true;
-        }
-    }
-    false
 }

@@ -4,8 +4,10 @@ ghost use Rattle.ld_model.specs.Tree.{object, members_of, put};
 ghost use Rattle.ld_model.specs.NodeMap.{new_node, with_node, changed};
 ghost use Rattle.node_ops.specs.Change.{change_of};
 ghost use Rattle.node_ops.specs.Graph.{nodes_view};
+ghost use Rattle.node_ops.specs.Once.{nodes_once};
 
 use crate::entries::{Change, change_entries};
+use crate::repeats::without_repeats;
 use ld_json::{Members, Text, Tree};
 use std::alloc::{AllocError, Global};
 use std::collections::BTreeMap;
@@ -64,13 +66,14 @@ pub(crate) fn change_node(
     Ok(())
 }
 
-/// The nodes in the order of their ids.
+/// The nodes in the order of their ids, with each entry once under its property.
 pub(crate) fn nodes_of(alloc: Global, graph: Graph) -> Result<Members, AllocError>
-    ensures { IfOk result (λ nodes. nodes ≡ nodes_view graph.entries) }
+    ensures { IfOk result (λ nodes. nodes ≡ nodes_once (nodes_view graph.entries)) }
 {
     let mut nodes = Members::new(alloc);
     for (id, node) in graph {
-        nodes.set(Text::from_string(id), Tree::Map(node))?;
+        let once = without_repeats(alloc, node)?;
+        nodes.set(Text::from_string(id), Tree::Map(once))?;
     }
     Ok(nodes)
 }

@@ -7,5 +7,6 @@
 mod entries;
 mod generation;
 mod graph;
+mod repeats;
 
 pub use generation::{Conflict, MapStop, NodeMap, node_map};

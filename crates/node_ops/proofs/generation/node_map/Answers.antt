@@ -3,16 +3,19 @@ use Rattle.std.specs.BTreeMap.{insert_entry}
 use Rattle.ld_model.specs.Tree.{Pairs, object, members_of, byte_order}
 use Rattle.ld_model.specs.Keys.{default_graph}
 use Rattle.ld_model.specs.Label.{no_labels}
-use Rattle.ld_model.specs.NodeMap.{Generated, generated}
+use Rattle.ld_model.specs.NodeMap.{added, Generated, generated}
 use Rattle.node_ops.specs.Graph.{nodes_view}
+use Rattle.node_ops.specs.Once.{appended, nodes_once}
 use Rattle.node_ops.specs.Walk.{walk_items}
+use Rattle.node_ops.proofs.Once.{walk_items-once}
 use Rattle.node_ops.proofs.Plain.{plain_items}
 use Rattle.node_ops.proofs.generation.node_map.Goals as goal
 
 pub returns : goal.returns
 returns c =
-    let walked : c.in_ok-nodes.nodes ≡ walk_items c.args.items.now [] = c.in_ok-nodes.ensures ∙ c.in_ok-add_items.ensures ∙ ap₂ (λ ts es. walk_items ts (nodes_view es)) c.as_slice.ensures c.new-graph.ensures.empty in
-    let graphs : c.put.new.self ≡ (default_graph, object (members_of (walk_items c.args.items.now []))) ∷ [] =
+    let gathered = c.in_ok-add_items.ensures ∙ ap₂ (λ ts es. walk_items appended ts (nodes_view es)) c.as_slice.ensures c.new-graph.ensures.empty in
+    let walked : c.in_ok-nodes.nodes ≡ walk_items added c.args.items.now [] = c.in_ok-nodes.ensures ∙ ap nodes_once gathered ∙ sym (walk_items-once c.args.items.now []) in
+    let graphs : c.put.new.self ≡ (default_graph, object (members_of (walk_items added c.args.items.now []))) ∷ [] =
     c.in_ok-put.ensures.ok ∙ ap₂ (λ gs (ns : Pairs). insert_entry byte_order gs default_graph (object (members_of ns))) c.new-graphs.ensures walked in
     let made : Pairs → Generated = λ gs. record { graphs = gs; issued = 0 } in
     ap generated (plain_items c.args.items.now [] no_labels c.requires) ∙ ap made (sym graphs)

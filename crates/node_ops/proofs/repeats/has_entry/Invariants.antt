@@ -2,7 +2,7 @@ use Rattle.std.proofs.Common.{◌≡◌, drop}
 use Rattle.std.specs.List.{list_any}
 use Rattle.ld_model.specs.Tree.{same_tree}
 use Rattle.ld_json.specs.View.{view, trees_view}
-use Rattle.node_ops.proofs.entries.has_entry.Given as goal
+use Rattle.node_ops.proofs.repeats.has_entry.Given as goal
 
 abbrev pub invariant-loop-other : goal.invariant-loop-other
 invariant-loop-other l = list_any (same_tree (view l.entry)) (trees_view (drop l.other-index l.entries)) ≡ list_any (same_tree (view l.entry)) (trees_view l.entries)

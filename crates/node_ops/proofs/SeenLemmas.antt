@@ -1,0 +1,89 @@
+-- Entries that are told apart by a text.
+use Rattle.std.proofs.Common.{◌≡◌, ℕ, List, [], ◌∷◌, ◌++◌, cond, Bool, true, false, ◌&&◌, ◌||◌, Option, Some, None, String, Global, refl, sym, ap, ◌∙◌, subst}
+use Rattle.std.specs.Str.{bytes_eq}
+use Rattle.std.specs.List.{list_any}
+use Rattle.std.specs.BTreeSet.{BTreeSet, contains_text}
+use Rattle.std.proofs.lemmas.List.Folds.{list_any-append}
+use Rattle.ld_model.specs.Tree.{Tree, text, object, Members, no_members, member, same_tree}
+use Rattle.ld_model.specs.NodeMap.{added}
+use Rattle.node_ops.specs.Walk.{id_in}
+use Rattle.node_ops.specs.Seen.{lone, lone_text, AreTextsAt}
+use Rattle.node_ops.proofs.Plain.{both, same_bytes, bytes_eq-comm}
+
+none : (b : Bool) → (b && false) ≡ false
+none true = refl
+none false = refl
+
+whole : (b : Bool) → (b && true) ≡ b
+whole true = refl
+whole false = refl
+
+swap : (a b : Bool) → (a || (b || false)) ≡ (b || a)
+swap true true = refl
+swap true false = refl
+swap false true = refl
+swap false false = refl
+
+-- An object that has a text at this key and nothing else is that object.
+text_is : (v : Tree) (s : List ℕ) → id_in (Some v) ≡ Some s → v ≡ text s
+text_is (text r) s h = cc
+text_is _ s h = absurd (cc)
+
+pub lone-is : (key : List ℕ) (t : Tree) (s : List ℕ) → lone_text key t ≡ Some s → t ≡ lone key s
+lone-is key (object (member k v no_members)) s h = by_key (bytes_eq k key) refl h
+  where
+    by_key : (b : Bool) → bytes_eq k key ≡ b → cond b (id_in (Some v)) None ≡ Some s → object (member k v no_members) ≡ lone key s
+    by_key true is h = ap (λ k. object (member k v no_members)) (same_bytes k key is) ∙ ap (λ v. object (member key v no_members)) (text_is v s h)
+    by_key false is h = absurd (cc)
+lone-is key _ s h = absurd (cc)
+
+-- Without such a text it equals no such object.
+other_value : (s : List ℕ) (v : Tree) → id_in (Some v) ≡ None → same_tree (text s) v ≡ false
+other_value s (text r) h = absurd (cc)
+other_value s _ h = refl
+
+apart : (key s : List ℕ) (t : Tree) → lone_text key t ≡ None → same_tree (lone key s) t ≡ false
+apart key s (object (member k v no_members)) h = by_key (bytes_eq k key) refl h
+  where
+    by_key : (b : Bool) → bytes_eq k key ≡ b → cond b (id_in (Some v)) None ≡ None → ((bytes_eq key k && same_tree (text s) v) && true) ≡ false
+    by_key true is h = rw (other_value s v h, none (bytes_eq key k)) refl
+    by_key false is h = let away : bytes_eq key k ≡ false = bytes_eq-comm k key ∙ is in rw away refl
+apart key s (object (member k v (member l w ms))) h = none (bytes_eq key k && same_tree (text s) v)
+apart key s _ h = refl
+
+module _ (key : List ℕ) (itself : bytes_eq key key ≡ true) where
+  lone-lone : (s r : List ℕ) → same_tree (lone key s) (lone key r) ≡ bytes_eq s r
+  lone-lone s r = ap (λ b. (b && bytes_eq s r) && true) itself ∙ whole (bytes_eq s r)
+
+  lone_same : (s : List ℕ) (t : Tree) → same_tree (lone key s) t ≡ true → t ≡ lone key s
+  lone_same s t same = by_text (lone_text key t) refl
+    where
+      by_text : (o : Option (List ℕ)) → lone_text key t ≡ o → t ≡ lone key s
+      by_text None is = absurd (let differs : same_tree (lone key s) t ≡ false = apart key s t is in cc)
+      by_text (Some r) is =
+          let at : t ≡ lone key r = lone-is key t r is in
+          let equal : bytes_eq s r ≡ true = sym (lone-lone s r) ∙ ap (same_tree (lone key s)) (sym at) ∙ same in
+          at ∙ ap (lone key) (sym (same_bytes s r equal))
+
+  -- What is among the entries once a further one is added.
+  any_added : (s : List ℕ) (t : Tree) (ts : List Tree) → list_any (same_tree (lone key s)) (added t ts) ≡ (same_tree (lone key s) t || list_any (same_tree (lone key s)) ts)
+  unfolding added
+  any_added s t ts = by_found (list_any (same_tree t) ts) refl
+    where
+      by_same : list_any (same_tree t) ts ≡ true → (b : Bool) → same_tree (lone key s) t ≡ b → list_any (same_tree (lone key s)) ts ≡ (b || list_any (same_tree (lone key s)) ts)
+      by_same found true same = subst (λ u. list_any (same_tree u) ts ≡ true) (lone_same s t same) found
+      by_same found false same = refl
+
+      by_found : (b : Bool) → list_any (same_tree t) ts ≡ b → list_any (same_tree (lone key s)) (cond b ts (ts ++ t ∷ [])) ≡ (same_tree (lone key s) t || list_any (same_tree (lone key s)) ts)
+      by_found true found = by_same found (same_tree (lone key s) t) refl
+      by_found false found = list_any-append (same_tree (lone key s)) ts (t ∷ []) ∙ swap (list_any (same_tree (lone key s)) ts) (same_tree (lone key s) t)
+
+  -- The texts noted, once that of the entry added is noted, and once an entry without such a text is added.
+  pub noted_same : (r : List ℕ) (old new : BTreeSet (String Global)) (t : Tree) (ts : List Tree) → AreTextsAt key old ts → ((s : List ℕ) → contains_text new s ≡ (bytes_eq r s || contains_text old s)) → t ≡ lone key r → AreTextsAt key new (added t ts)
+  noted_same r old new t ts known noted is s =
+      let equal : same_tree (lone key s) t ≡ bytes_eq r s = ap (same_tree (lone key s)) is ∙ lone-lone s r ∙ bytes_eq-comm r s in
+      noted s ∙ ap (λ b. bytes_eq r s || b) (known s) ∙ ap (λ b. b || list_any (same_tree (lone key s)) ts) (sym equal) ∙ sym (any_added s t ts)
+
+  pub noted_other : (texts : BTreeSet (String Global)) (t : Tree) (ts : List Tree) → AreTextsAt key texts ts → lone_text key t ≡ None → AreTextsAt key texts (added t ts)
+  noted_other texts t ts known without s =
+      known s ∙ ap (λ b. b || list_any (same_tree (lone key s)) ts) (sym (apart key s t without)) ∙ sym (any_added s t ts)
