@@ -1,5 +1,5 @@
 -- A map from ids to members, seen as the nodes of a graph.
-use Rattle.std.proofs.Common.{◌≡◌, ℕ, List, [], ◌∷◌, ◌++◌, append_assoc, cond, Bool, true, false, Option, Some, None, String, Global, string_bytes, string_cmp, Ordering, Less, Equal, Greater, refl, sym, ap, ◌∙◌, subst}
+use Rattle.std.proofs.Common.{◌≡◌, ℕ, List, [], ◌∷◌, cond, Bool, true, false, Option, Some, None, String, Global, string_bytes, string_cmp, Ordering, Less, Equal, Greater, refl, sym, ap, ◌∙◌}
 use Rattle.std.specs.Option.{option_map, is_some}
 use Rattle.std.specs.Ordering.{is_eq, match_ordering}
 use Rattle.std.specs.List.{AllByRecursion}
@@ -11,7 +11,7 @@ use Rattle.std.proofs.lemmas.Map.{lookup-none}
 use Rattle.std.proofs.lemmas.Map.Entries.{none_below_head}
 use Rattle.ld_model.specs.Tree.{Tree, Pairs, object, null, members_of, member_list-members_of, member_at, byte_order, put, AreAscending}
 use Rattle.ld_model.specs.NodeMap.{new_node, node_at, node_or_new, with_node, with_node_by, with_entries, changed}
-use Rattle.ld_json.proofs.ViewLemmas.{changes_nothing, insert_entry-behind}
+use Rattle.ld_json.proofs.ViewLemmas.{changes_nothing}
 use Rattle.node_ops.specs.Graph.{node_view, nodes_view}
 
 abbrev pub Entries : Type 0

@@ -4,11 +4,10 @@ use Rattle.std.specs.Str.{bytes_eq}
 use Rattle.std.specs.List.{list_any}
 use Rattle.std.specs.BTreeSet.{BTreeSet, contains_text}
 use Rattle.std.proofs.lemmas.List.Folds.{list_any-append}
-use Rattle.ld_model.specs.Tree.{Tree, text, object, Members, no_members, member, same_tree}
-use Rattle.ld_model.specs.NodeMap.{added}
+use Rattle.ld_model.specs.Tree.{Tree, text, object, no_members, member, same_tree}
 use Rattle.node_ops.specs.Walk.{id_in}
 use Rattle.node_ops.specs.Seen.{lone, lone_text, AreTextsAt}
-use Rattle.node_ops.proofs.Plain.{both, same_bytes, bytes_eq-comm}
+use Rattle.node_ops.proofs.Plain.{same_bytes, bytes_eq-comm}
 
 none : (b : Bool) → (b && false) ≡ false
 none true = refl
@@ -55,6 +54,19 @@ module _ (key : List ℕ) (itself : bytes_eq key key ≡ true) where
   lone-lone : (s r : List ℕ) → same_tree (lone key s) (lone key r) ≡ bytes_eq s r
   lone-lone s r = ap (λ b. (b && bytes_eq s r) && true) itself ∙ whole (bytes_eq s r)
 
+  any_more : (s : List ℕ) (t : Tree) (ts : List Tree) → list_any (same_tree (lone key s)) (ts ++ t ∷ []) ≡ (same_tree (lone key s) t || list_any (same_tree (lone key s)) ts)
+  any_more s t ts = list_any-append (same_tree (lone key s)) ts (t ∷ []) ∙ swap (list_any (same_tree (lone key s)) ts) (same_tree (lone key s) t)
+
+  -- The texts noted, once that of a further entry is noted, and once an entry without such a text stands behind.
+  pub noted_same : (r : List ℕ) (old new : BTreeSet (String Global)) (t : Tree) (ts : List Tree) → AreTextsAt key old ts → ((s : List ℕ) → contains_text new s ≡ (bytes_eq r s || contains_text old s)) → t ≡ lone key r → AreTextsAt key new (ts ++ t ∷ [])
+  noted_same r old new t ts known noted is s =
+      let equal : same_tree (lone key s) t ≡ bytes_eq r s = ap (same_tree (lone key s)) is ∙ lone-lone s r ∙ bytes_eq-comm r s in
+      noted s ∙ ap (λ b. bytes_eq r s || b) (known s) ∙ ap (λ b. b || list_any (same_tree (lone key s)) ts) (sym equal) ∙ sym (any_more s t ts)
+
+  pub noted_other : (texts : BTreeSet (String Global)) (t : Tree) (ts : List Tree) → AreTextsAt key texts ts → lone_text key t ≡ None → AreTextsAt key texts (ts ++ t ∷ [])
+  noted_other texts t ts known without s =
+      known s ∙ ap (λ b. b || list_any (same_tree (lone key s)) ts) (sym (apart key s t without)) ∙ sym (any_more s t ts)
+
   lone_same : (s : List ℕ) (t : Tree) → same_tree (lone key s) t ≡ true → t ≡ lone key s
   lone_same s t same = by_text (lone_text key t) refl
     where
@@ -65,25 +77,10 @@ module _ (key : List ℕ) (itself : bytes_eq key key ≡ true) where
           let equal : bytes_eq s r ≡ true = sym (lone-lone s r) ∙ ap (same_tree (lone key s)) (sym at) ∙ same in
           at ∙ ap (lone key) (sym (same_bytes s r equal))
 
-  -- What is among the entries once a further one is added.
-  any_added : (s : List ℕ) (t : Tree) (ts : List Tree) → list_any (same_tree (lone key s)) (added t ts) ≡ (same_tree (lone key s) t || list_any (same_tree (lone key s)) ts)
-  unfolding added
-  any_added s t ts = by_found (list_any (same_tree t) ts) refl
+  -- An entry that is there makes no difference behind.
+  pub noted_there : (texts : BTreeSet (String Global)) (t : Tree) (ts : List Tree) → list_any (same_tree t) ts ≡ true → AreTextsAt key texts (ts ++ t ∷ []) → AreTextsAt key texts ts
+  noted_there texts t ts found known s = known s ∙ any_more s t ts ∙ by_same (same_tree (lone key s) t) refl
     where
-      by_same : list_any (same_tree t) ts ≡ true → (b : Bool) → same_tree (lone key s) t ≡ b → list_any (same_tree (lone key s)) ts ≡ (b || list_any (same_tree (lone key s)) ts)
-      by_same found true same = subst (λ u. list_any (same_tree u) ts ≡ true) (lone_same s t same) found
-      by_same found false same = refl
-
-      by_found : (b : Bool) → list_any (same_tree t) ts ≡ b → list_any (same_tree (lone key s)) (cond b ts (ts ++ t ∷ [])) ≡ (same_tree (lone key s) t || list_any (same_tree (lone key s)) ts)
-      by_found true found = by_same found (same_tree (lone key s) t) refl
-      by_found false found = list_any-append (same_tree (lone key s)) ts (t ∷ []) ∙ swap (list_any (same_tree (lone key s)) ts) (same_tree (lone key s) t)
-
-  -- The texts noted, once that of the entry added is noted, and once an entry without such a text is added.
-  pub noted_same : (r : List ℕ) (old new : BTreeSet (String Global)) (t : Tree) (ts : List Tree) → AreTextsAt key old ts → ((s : List ℕ) → contains_text new s ≡ (bytes_eq r s || contains_text old s)) → t ≡ lone key r → AreTextsAt key new (added t ts)
-  noted_same r old new t ts known noted is s =
-      let equal : same_tree (lone key s) t ≡ bytes_eq r s = ap (same_tree (lone key s)) is ∙ lone-lone s r ∙ bytes_eq-comm r s in
-      noted s ∙ ap (λ b. bytes_eq r s || b) (known s) ∙ ap (λ b. b || list_any (same_tree (lone key s)) ts) (sym equal) ∙ sym (any_added s t ts)
-
-  pub noted_other : (texts : BTreeSet (String Global)) (t : Tree) (ts : List Tree) → AreTextsAt key texts ts → lone_text key t ≡ None → AreTextsAt key texts (added t ts)
-  noted_other texts t ts known without s =
-      known s ∙ ap (λ b. b || list_any (same_tree (lone key s)) ts) (sym (apart key s t without)) ∙ sym (any_added s t ts)
+      by_same : (b : Bool) → same_tree (lone key s) t ≡ b → (b || list_any (same_tree (lone key s)) ts) ≡ list_any (same_tree (lone key s)) ts
+      by_same true same = sym (subst (λ u. list_any (same_tree u) ts ≡ true) (lone_same s t same) found)
+      by_same false same = refl

@@ -5,9 +5,10 @@ ghost use Rattle.std.specs.Map.{set_value};
 ghost use Rattle.ld_model.specs.Tree.{AreAscending, byte_order, member_at, null};
 ghost use Rattle.ld_model.specs.NodeMap.{entries_of, with_entries};
 ghost use Rattle.ld_json.specs.View.{view};
-ghost use Rattle.node_ops.specs.Once.{appended};
+ghost use Rattle.node_ops.specs.Once.{gathered};
 ghost use Rattle.node_ops.specs.Change.{change_of};
 
+use crate::repeats::is_found;
 use ld_json::{Members, Tree, Trees};
 use std::alloc::{AllocError, Global};
 
@@ -16,7 +17,7 @@ use std::alloc::{AllocError, Global};
 pub(crate) enum Change<'a> {
     /// The property's array is made where it is missing.
     Ensure,
-    /// The entry is put behind those that are there.
+    /// The entry is added, unless an equal one is found.
     Add(&'a Tree),
 }
 
@@ -56,10 +57,13 @@ fn take_entries(alloc: Global, node: &mut Members, property: &str) -> Trees
     }
 }
 
-/// The entries with this one at their end, also where an equal one is there.
+/// The entries with this one at their end, unless the list is short and an equal one is in it.
 fn with_entry(alloc: Global, mut entries: Trees, entry: &Tree) -> Result<Trees, AllocError>
-    ensures { IfOk result (λ ts. ts ≡ appended (view entry.now) entries) }
+    ensures { IfOk result (λ ts. ts ≡ gathered (view entry.now) entries) }
 {
+    if is_found(&entries, entry) {
+        return Ok(entries);
+    }
     entries.push(entry.copy(alloc)?)?;
     Ok(entries)
 }

@@ -7,7 +7,7 @@ ghost use Rattle.ld_model.specs.Plain.{are_plain_items};
 ghost use Rattle.ld_model.specs.NodeMap.{generate};
 ghost use Rattle.ld_json.specs.View.{view, trees_view, members_view};
 ghost use Rattle.node_ops.specs.Graph.{nodes_view};
-ghost use Rattle.node_ops.specs.Once.{appended};
+ghost use Rattle.node_ops.specs.Once.{gathered};
 ghost use Rattle.node_ops.specs.Walk.{walk_target, walk_entries, walk_property, walk_properties, walk_item, walk_items, id_in};
 
 use crate::entries::Change;
@@ -73,7 +73,7 @@ pub fn node_map(alloc: Global, items: &Trees) -> Result<(NodeMap, u64), MapStop>
 }
 
 fn add_items(alloc: Global, graph: &mut Graph, items: &[Tree]) -> Result<(), AllocError>
-    ensures { OnOk result (nodes_view graph.new.entries ≡ walk_items appended (trees_view items.now) (nodes_view graph.old.entries)) }
+    ensures { OnOk result (nodes_view graph.new.entries ≡ walk_items gathered (trees_view items.now) (nodes_view graph.old.entries)) }
 {
     for item in items {
         add_item(alloc, graph, item)?;
@@ -83,7 +83,7 @@ fn add_items(alloc: Global, graph: &mut Graph, items: &[Tree]) -> Result<(), All
 
 /// A node object (step 6).
 fn add_item(alloc: Global, graph: &mut Graph, item: &Tree) -> Result<(), AllocError>
-    ensures { OnOk result (nodes_view graph.new.entries ≡ walk_item appended (view item.now) (nodes_view graph.old.entries)) }
+    ensures { OnOk result (nodes_view graph.new.entries ≡ walk_item gathered (view item.now) (nodes_view graph.old.entries)) }
 {
     let Tree::Map(members) = item else {
         return Ok(());
@@ -112,7 +112,7 @@ fn add_properties(
     id: &str,
     members: &[(Text, Tree)],
 ) -> Result<(), AllocError>
-    ensures { OnOk result (nodes_view graph.new.entries ≡ walk_properties appended id.now (members_view members.now) (nodes_view graph.old.entries)) }
+    ensures { OnOk result (nodes_view graph.new.entries ≡ walk_properties gathered id.now (members_view members.now) (nodes_view graph.old.entries)) }
 {
     for member in members {
         if member.0.as_str() != "@id" {
@@ -129,7 +129,7 @@ fn add_property(
     id: &str,
     member: &(Text, Tree),
 ) -> Result<(), AllocError>
-    ensures { OnOk result (nodes_view graph.new.entries ≡ walk_property appended id.now (member.now.0, view member.now.1) (nodes_view graph.old.entries)) }
+    ensures { OnOk result (nodes_view graph.new.entries ≡ walk_property gathered id.now (member.now.0, view member.now.1) (nodes_view graph.old.entries)) }
 {
     let property = member.0.as_str();
     change_node(alloc, graph, id, property, Change::Ensure)?;
@@ -149,7 +149,7 @@ fn add_entries(
     property: &str,
     entries: &[Tree],
 ) -> Result<(), AllocError>
-    ensures { OnOk result (nodes_view graph.new.entries ≡ walk_entries appended id.now property.now (trees_view entries.now) (nodes_view graph.old.entries)) }
+    ensures { OnOk result (nodes_view graph.new.entries ≡ walk_entries gathered id.now property.now (trees_view entries.now) (nodes_view graph.old.entries)) }
 {
     for entry in entries {
         ensure_target(alloc, graph, entry)?;

@@ -1,20 +1,19 @@
 // Entries that equal an earlier one of their property, and what is left without them.
-ghost use Rattle.std.specs.Prelude.{◌≡◌, ◌||◌, ℕ, List, not, IfOk, OnOk};
+ghost use Rattle.std.specs.Prelude.{◌≡◌, ◌||◌, ℕ, List, [], ◌∷◌, ◌++◌, not, IfOk, OnOk};
 ghost use Rattle.std.specs.BTreeSet.{contains_text};
 ghost use Rattle.std.specs.Str.{bytes_eq};
 ghost use Rattle.std.specs.Option.{option_copied, option_map};
 ghost use Rattle.std.specs.List.{list_any};
 ghost use Rattle.ld_model.specs.Tree.{same_tree};
-ghost use Rattle.ld_model.specs.NodeMap.{added};
-ghost use Rattle.ld_json.specs.View.{view, trees_view};
-ghost use Rattle.node_ops.specs.Once.{once, entries_once, members_once};
+ghost use Rattle.ld_json.specs.View.{view, trees_view, members_view};
+ghost use Rattle.node_ops.specs.Once.{is_found as found, is_kept, settled, once, entries_once, members_once, has_many};
 ghost use Rattle.node_ops.specs.Seen.{lone_text, only, Notes};
 
 use ld_json::{Members, Text, Tree, Trees};
 use std::alloc::{AllocError, Global};
 use std::collections::BTreeSet;
 
-/// A list of at most this many entries is searched by a scan.
+/// A list with fewer entries is searched for each new one.
 const FEW: usize = 16;
 
 /// The texts of the values and of the references among some entries.
@@ -24,8 +23,45 @@ pub(crate) struct Seen {
     references: BTreeSet<String>,
 }
 
+/// Whether the list is short, and an entry in it equals this one.
+pub(crate) fn is_found(entries: &Trees, entry: &Tree) -> bool
+    ensures { result ≡ found (view entry.now) entries.now }
+{
+    entries.len() < FEW && has_entry(entries.as_slice(), entry)
+}
+
 /// The members of a node, with each entry once under its property.
 pub(crate) fn without_repeats(alloc: Global, node: Members) -> Result<Members, AllocError>
+    ensures { IfOk result (λ ms. ms ≡ members_once node) }
+{
+    if has_many_entries(node.as_slice()) {
+        return rebuilt(alloc, node);
+    }
+    Ok(node)
+}
+
+/// Whether some property has more than a few entries.
+fn has_many_entries(members: &[(Text, Tree)]) -> bool
+    ensures { result ≡ list_any (λ m. has_many m.1) (members_view members.now) }
+{
+    for member in members {
+        if is_long(&member.1) {
+            return true;
+        }
+    }
+    false
+}
+
+fn is_long(value: &Tree) -> bool
+    ensures { result ≡ has_many (view value.now) }
+{
+    match value {
+        Tree::Items(entries) => entries.len() > FEW,
+        _ => false,
+    }
+}
+
+fn rebuilt(alloc: Global, node: Members) -> Result<Members, AllocError>
     ensures { IfOk result (λ ms. ms ≡ members_once node) }
 {
     let mut members = Members::with_capacity(alloc, node.len())?;
@@ -51,64 +87,35 @@ fn each_once(alloc: Global, value: Tree) -> Result<Tree, AllocError>
 fn first_ones(alloc: Global, entries: Trees) -> Result<Trees, AllocError>
     ensures { IfOk result (λ ts. ts ≡ once entries) }
 {
-    if entries.len() > FEW {
-        first_of_many(alloc, entries)
-    } else {
-        first_of_few(alloc, entries)
-    }
-}
-
-fn first_of_few(alloc: Global, entries: Trees) -> Result<Trees, AllocError>
-    ensures { IfOk result (λ ts. ts ≡ once entries) }
-{
-    let mut kept = Trees::with_capacity(alloc, entries.len())?;
-    for entry in entries.into_vec() {
-        add_entry(&mut kept, entry)?;
-    }
-    Ok(kept)
-}
-
-fn first_of_many(alloc: Global, entries: Trees) -> Result<Trees, AllocError>
-    ensures { IfOk result (λ ts. ts ≡ once entries) }
-{
     let mut seen = Seen {
         values: BTreeSet::new(alloc),
         references: BTreeSet::new(alloc),
     };
     let mut kept = Trees::new(alloc);
     for entry in entries.into_vec() {
-        add_noted(alloc, &mut seen, &mut kept, entry)?;
+        settle(alloc, &mut seen, &mut kept, entry)?;
     }
     Ok(kept)
 }
 
-/// Adds an entry, unless an equal one is there.
-fn add_entry(kept: &mut Trees, entry: Tree) -> Result<(), AllocError>
-    ensures { OnOk result (kept.new ≡ added (view entry) kept.old) }
+/// Keeps an entry, if it is among the first or new, and notes it.
+fn settle(alloc: Global, seen: &mut Seen, kept: &mut Trees, entry: Tree) -> Result<(), AllocError>
+    requires { Notes seen.old kept.old }
+    ensures kept { OnOk result (kept.new ≡ settled (view entry) kept.old) }
+    ensures notes { OnOk result (Notes seen.new (settled (view entry) kept.old)) }
 {
-    if has_entry(kept.as_slice(), &entry) {
+    let new = is_new(alloc, seen, kept.as_slice(), &entry)?;
+    if !stays(kept.len(), new) {
         return Ok(());
     }
     kept.push(entry)?;
     Ok(())
 }
 
-/// The same, beside the texts of the entries kept.
-fn add_noted(
-    alloc: Global,
-    seen: &mut Seen,
-    kept: &mut Trees,
-    entry: Tree,
-) -> Result<(), AllocError>
-    requires { Notes seen.old kept.old }
-    ensures kept { OnOk result (kept.new ≡ added (view entry) kept.old) }
-    ensures notes { OnOk result (Notes seen.new (added (view entry) kept.old)) }
+fn stays(count: usize, new: bool) -> bool
+    ensures { result ≡ is_kept count new }
 {
-    if !is_new(alloc, seen, kept.as_slice(), &entry)? {
-        return Ok(());
-    }
-    kept.push(entry)?;
-    Ok(())
+    count < FEW || new
 }
 
 /// Whether no entry kept equals this one, which is noted. Values and references are looked up by their texts; an entry of
@@ -116,7 +123,7 @@ fn add_noted(
 fn is_new(alloc: Global, seen: &mut Seen, kept: &[Tree], entry: &Tree) -> Result<bool, AllocError>
     requires { Notes seen.old (trees_view kept.now) }
     ensures answer { IfOk result (λ new. new ≡ not (list_any (same_tree (view entry.now)) (trees_view kept.now))) }
-    ensures notes { OnOk result (Notes seen.new (added (view entry.now) (trees_view kept.now))) }
+    ensures notes { OnOk result (Notes seen.new (trees_view kept.now ++ view entry.now ∷ [])) }
 {
     if let Some(text) = lone_text_of(entry, "@value") {
         let new = note(alloc, &mut seen.values, text)?;

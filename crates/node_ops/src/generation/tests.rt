@@ -95,3 +95,20 @@ fn a_node_map_has_one_graph_and_no_labels(rt: HostRuntime) -> Result<(), Fail> {
     assert_eq!(rt; issued, 0);
     Ok(())
 }
+
+// More entries than are searched one by one: values, one of them with the text of a reference, and references.
+const MANY: &str =
+    r#"{"@value":"a"},{"@value":"b"},{"@value":"c"},{"@value":"d"},{"@value":"e"},{"@value":"f"},{"@value":"g"},{"@value":"h"},{"@value":"i"},{"@value":"j"},{"@value":"k"},{"@value":"l"},{"@value":"m"},{"@value":"n"},{"@value":"o"},{"@value":"e:b"},{"@id":"e:b"},{"@id":"e:c"}"#;
+
+#[test]
+fn a_long_list_keeps_the_first_of_equal_entries(rt: HostRuntime) -> Result<(), Fail> {
+    let document = format!(in rt.alloc();
+        r#"[{{"@id":"e:a","e:p":[{MANY},{MANY}]}},{{"@id":"e:a","e:p":[{MANY}]}}]"#
+    )?;
+    let got = nodes_text(&rt, rt.alloc(), document.as_str())?;
+    let want = format!(in rt.alloc();
+        r#"{{"e:a":{{"@id":"e:a","e:p":[{MANY}]}},"e:b":{{"@id":"e:b"}},"e:c":{{"@id":"e:c"}}}}"#
+    )?;
+    assert_eq!(rt; got.as_slice(), want.as_str().as_bytes());
+    Ok(())
+}

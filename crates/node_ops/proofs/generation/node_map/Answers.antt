@@ -5,7 +5,7 @@ use Rattle.ld_model.specs.Keys.{default_graph}
 use Rattle.ld_model.specs.Label.{no_labels}
 use Rattle.ld_model.specs.NodeMap.{added, Generated, generated}
 use Rattle.node_ops.specs.Graph.{nodes_view}
-use Rattle.node_ops.specs.Once.{appended, nodes_once}
+use Rattle.node_ops.specs.Once.{gathered, nodes_once}
 use Rattle.node_ops.specs.Walk.{walk_items}
 use Rattle.node_ops.proofs.Once.{walk_items-once}
 use Rattle.node_ops.proofs.Plain.{plain_items}
@@ -13,7 +13,7 @@ use Rattle.node_ops.proofs.generation.node_map.Goals as goal
 
 pub returns : goal.returns
 returns c =
-    let gathered = c.in_ok-add_items.ensures ∙ ap₂ (λ ts es. walk_items appended ts (nodes_view es)) c.as_slice.ensures c.new-graph.ensures.empty in
+    let gathered = c.in_ok-add_items.ensures ∙ ap₂ (λ ts es. walk_items gathered ts (nodes_view es)) c.as_slice.ensures c.new-graph.ensures.empty in
     let walked : c.in_ok-nodes.nodes ≡ walk_items added c.args.items.now [] = c.in_ok-nodes.ensures ∙ ap nodes_once gathered ∙ sym (walk_items-once c.args.items.now []) in
     let graphs : c.put.new.self ≡ (default_graph, object (members_of (walk_items added c.args.items.now []))) ∷ [] =
     c.in_ok-put.ensures.ok ∙ ap₂ (λ gs (ns : Pairs). insert_entry byte_order gs default_graph (object (members_of ns))) c.new-graphs.ensures walked in

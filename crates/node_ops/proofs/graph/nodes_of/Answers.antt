@@ -1,8 +1,7 @@
 use Rattle.std.proofs.Common.{◌≡◌, ◌++◌, ◌∷◌, String, Global, string_bytes, sym, ap, ◌∙◌}
 use Rattle.std.proofs.lemmas.Map.Iter.{rest_more}
-use Rattle.std.specs.BTreeMap.{insert_entry}
-use Rattle.ld_model.specs.Tree.{Pairs, object, members_of, byte_order}
-use Rattle.node_ops.specs.Graph.{nodes_view, node_view}
+use Rattle.ld_model.specs.Tree.{Pairs, object, members_of}
+use Rattle.node_ops.specs.Graph.{nodes_view}
 use Rattle.node_ops.specs.Once.{node_once, nodes_once}
 use Rattle.node_ops.proofs.GraphLemmas.{as_node, ascending_nodes}
 use Rattle.node_ops.proofs.Once.{put_behind, ascending-each, node_once-object}

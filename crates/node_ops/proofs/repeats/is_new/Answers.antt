@@ -1,4 +1,4 @@
-use Rattle.std.proofs.Common.{◌≡◌, ℕ, List, Bool, Option, Some, None, not, refl, sym, ap, ◌∙◌}
+use Rattle.std.proofs.Common.{◌≡◌, List, Bool, not, refl, sym, ap, ◌∙◌}
 use Rattle.std.specs.List.{list_any}
 use Rattle.ld_model.specs.Tree as model
 use Rattle.ld_model.specs.Tree.{same_tree}
@@ -41,6 +41,6 @@ returns-in-Some-lone_text_of-clause-notes c =
 pub returns-clause-notes : goal.returns-clause-notes
 returns-clause-notes c =
     record {
-      values = noted_other value_key refl _ _ _ c.requires.values (sym c.in_default.ensures);
-      references = noted_other id_key refl _ _ _ c.requires.references (sym c.in_default-lone_text_of.ensures);
+      values = noted_other value_key refl c.args.seen.now.values (view c.args.entry.now) (trees_view c.args.kept.now) c.requires.values (sym c.in_default.ensures);
+      references = noted_other id_key refl c.args.seen.now.references (view c.args.entry.now) (trees_view c.args.kept.now) c.requires.references (sym c.in_default-lone_text_of.ensures);
     }

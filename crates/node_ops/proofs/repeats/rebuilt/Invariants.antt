@@ -1,7 +1,7 @@
 use Rattle.std.proofs.Common.{◌≡◌, ◌++◌}
 use Rattle.ld_json.specs.View.{members_view}
 use Rattle.node_ops.specs.Once.{members_once}
-use Rattle.node_ops.proofs.repeats.without_repeats.Given as goal
+use Rattle.node_ops.proofs.repeats.rebuilt.Given as goal
 
 abbrev pub invariant-loop-property : goal.invariant-loop-property
 invariant-loop-property l = l.members ++ members_once (members_view l.property-iterator.rest.items) ≡ members_once l.fn.node

@@ -1,6 +1,6 @@
-use Rattle.std.proofs.Common.{arith, rules, refl, sym, ap, ◌∙◌, ◌≡◌, ℕ, List, false, [], String, Global}
+use Rattle.std.proofs.Common.{arith, sym, ap, ◌∙◌, ◌≡◌, ℕ, List, [], String, Global}
 use Rattle.std.proofs.lemmas.Grind.{common_steps}
-use Rattle.std.specs.BTreeSet.{BTreeSet, contains_text, IsEmpty}
+use Rattle.std.specs.BTreeSet.{BTreeSet}
 use Rattle.std.specs.List.{list_any}
 use Rattle.std.specs.Ordering.{nat_cmp}
 use Rattle.std.specs.Cmp.Lexicographic.{slice_cmp}
@@ -9,10 +9,9 @@ use Rattle.std.specs.Prelude.{string_bytes}
 use Rattle.ld_model.specs.Tree as model
 use Rattle.ld_model.specs.Tree.{same_tree}
 use Rattle.ld_model.specs.Keys.{id_key, value_key}
-use Rattle.ld_json.specs.View.{trees_view}
-use Rattle.node_ops.specs.Once.{once, all_added}
+use Rattle.node_ops.specs.Once.{once}
 use Rattle.node_ops.specs.Seen.{AreTextsAt, lone}
-use Rattle.node_ops.proofs.repeats.first_of_many.Goals as goal
+use Rattle.node_ops.proofs.repeats.first_ones.Goals as goal
 
 -- No text is noted, and there are no entries.
 none : (key : List ℕ) (texts : BTreeSet (String Global)) (ts : List model.Tree) → texts.keys ≡ [] → ts ≡ [] → AreTextsAt key texts ts

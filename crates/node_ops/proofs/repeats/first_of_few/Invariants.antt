@@ -1,8 +1,0 @@
-use Rattle.std.proofs.Common.{◌≡◌}
-use Rattle.ld_json.specs.View.{trees_view}
-use Rattle.node_ops.specs.Once.{all_added, once}
-use Rattle.node_ops.proofs.repeats.first_of_few.Given as goal
-
--- What is left, added to those kept, gives what all give.
-abbrev pub invariant-loop-entry : goal.invariant-loop-entry
-invariant-loop-entry l = all_added (trees_view l.entry-iterator.rest.items) l.kept ≡ once l.fn.entries
