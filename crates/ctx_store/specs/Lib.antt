@@ -1,0 +1,5 @@
+pub mod Index
+pub mod Seen
+pub mod Stored
+pub mod View
+pub mod Stops
