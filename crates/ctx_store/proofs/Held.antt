@@ -1,5 +1,5 @@
 -- The map of a store, seen as its contexts.
-use Rattle.std.proofs.Common.{◌≡◌, ℕ, List, [], ◌∷◌, cond, true, false, Option, Some, None, String, Global, string_bytes, string_cmp, Less, Equal, Greater, refl, ap}
+use Rattle.std.proofs.Common.{◌≡◌, ℕ, List, [], ◌∷◌, cond, true, false, Some, String, Global, string_bytes, string_cmp, Less, Equal, Greater, refl, ap}
 use Rattle.std.specs.Option.{option_map}
 use Rattle.std.specs.Ordering.{is_eq, match_ordering}
 use Rattle.std.specs.Map.{lookup}
@@ -22,4 +22,3 @@ insert-view iri file [] = refl
 insert-view iri file (e ∷ es) =
     elim (byte_order (string_bytes iri) (string_bytes e.0)) as (λ o. contexts_view (match_ordering o ((iri, file) ∷ e ∷ es) ((e.0, file) ∷ es) (e ∷ insert_entry string_cmp es iri file)) ≡ match_ordering o ((string_bytes iri, loaded_view file) ∷ contexts_view (e ∷ es)) ((string_bytes e.0, loaded_view file) ∷ contexts_view es) (context_view e ∷ insert_entry byte_order (contexts_view es) (string_bytes iri) (loaded_view file)))
     [ Less ↦ refl | Equal ↦ refl | Greater ↦ ap (λ l. context_view e ∷ l) (insert-view iri file es) ]
-

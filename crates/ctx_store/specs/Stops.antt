@@ -1,5 +1,5 @@
 -- Which refusal may come, and what it says of the folder's count of faults.
-use Rattle.std.specs.Prelude.{ℕ, ◌≡◌, List, Option, Some, None, Result, MatchResult, ⊤}
+use Rattle.std.specs.Prelude.{ℕ, ◌≡◌, List, Option, Some, Result, MatchResult, ⊤}
 use Rattle.std.specs.Option.{option_map_or}
 use Rattle.ld_io.specs.Faults.{Rose}
 use Rattle.ctx_store.specs.Stored.{Contexts, Stored, holds, index_line, missing, with_file}

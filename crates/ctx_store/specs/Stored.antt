@@ -7,7 +7,7 @@ use Rattle.std.specs.FinMap as map
 use Rattle.std.specs.FinMap.{FinMap}
 use Rattle.std.specs.BTreeMap.{insert_entry}
 use Rattle.ld_model.specs.Tree.{Tree, byte_order}
-use Rattle.ld_json.specs.Read.{Reading, reads, no_json, number_at, version_at, reading}
+use Rattle.ld_json.specs.Read.{Reading, reads, reading}
 use Rattle.ctx_store.specs.Index.{lines, entry_on, first_broken}
 
 -- The files of a folder, by their names.
@@ -39,7 +39,7 @@ abbrev pub filed : Files → Contexts → ℕ → List (List ℕ) → Stored
 filed files contexts n [] = holds contexts
 filed files contexts n (l ∷ ls) =
     option_map_or (λ e. option_map_or (λ bytes. filed files (with_file contexts e.0 bytes) (n + 1) ls) (map.get files e.1) (missing n))
-      (entry_on l) (filed files contexts (n + 1) ls)
+    (entry_on l) (filed files contexts (n + 1) ls)
 
 -- What the lines of an index give: its first broken line, or else the contexts of its files. Lines are counted from 1.
 abbrev pub indexed : Files → List (List ℕ) → Stored

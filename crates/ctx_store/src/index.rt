@@ -100,11 +100,7 @@ fn add(alloc: Global, seen: &mut BTreeSet<String>, iri: &str) -> Result<bool, Al
 }
 
 // Whether a line keeps the rule behind those before it, whose IRIs are in the set. Its own is added.
-fn keeps_rule(
-    alloc: Global,
-    seen: &mut BTreeSet<String>,
-    line: &[u8],
-) -> Result<bool, AllocError>
+fn keeps_rule(alloc: Global, seen: &mut BTreeSet<String>, line: &[u8]) -> Result<bool, AllocError>
     ensures rule { IfOk result (λ keeps. (before : List (List ℕ)) → HasSeen seen.old before → keeps ≡ not (breaks before line.now)) }
     ensures seen { IfOk result (λ keeps. (before : List (List ℕ)) → HasSeen seen.old before → IsTrue keeps → HasSeen seen.new (iris_on line.now ++ before)) }
 {

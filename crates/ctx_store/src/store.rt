@@ -159,11 +159,7 @@ fn load_file<F: Folder>(
 }
 
 /// Reads the files of an index in the order of its lines.
-fn load_files<F: Folder>(
-    alloc: Global,
-    folder: &mut F,
-    index: &[u8],
-) -> Result<Store, StoreRefusal>
+fn load_files<F: Folder>(alloc: Global, folder: &mut F, index: &[u8]) -> Result<Store, StoreRefusal>
     ensures files { F.files folder.new ≡ F.files folder.old }
     ensures answer { IfSome (F.files folder.old) (λ files. Answers (filed files [] 1 (lines index.now)) result) }
     ensures faults { CountsStoreFaults (F.faults folder.old) (F.faults folder.new) result }

@@ -1,4 +1,4 @@
-use Rattle.std.proofs.Common.{◌≡◌, ap, ◌∙◌, sym, ℕ, Option, Some, None, refl, Bor}
+use Rattle.std.proofs.Common.{◌≡◌, ap, ◌∙◌, sym, Option, Some, None, refl, Bor}
 use Rattle.std.specs.Option.{option_map, option_copied}
 use Rattle.std.specs.Map.{lookup}
 use Rattle.std.specs.BTreeMap.{is_at}

@@ -1,4 +1,4 @@
-use Rattle.std.proofs.Common.{◌≡◌, ap, ◌∙◌, sym}
+use Rattle.std.proofs.Common.{ap, ◌∙◌}
 use Rattle.std.specs.BTreeMap.{insert_entry}
 use Rattle.ld_model.specs.Tree.{byte_order}
 use Rattle.ctx_store.specs.View.{loaded_view, contexts_view}
