@@ -3,11 +3,10 @@ ghost use Rattle.std.specs.Prelude.{◌≡◌, ◌<◌, ◌++◌, [], ◌∷◌,
 ghost use Rattle.std.specs.Option.{option_map, option_and_then};
 ghost use Rattle.std.specs.List.{before_first, list_all};
 ghost use Rattle.std.specs.Str.{bytes_eq};
-ghost use Rattle.std.specs.BTreeSet.{contains_text};
 ghost use Rattle.iri_ref.specs.Parts.{is, part_after};
 ghost use Rattle.ctx_store.specs.Index.{lines, without_return, is_name_byte, begins_with_dot, is_file_name, entry_of, entry_on, iris_on, breaks, first_broken};
 ghost use Rattle.ctx_store.specs.Stops.{RefusesIndex};
-ghost use Rattle.ctx_store.specs.Seen.{HasSeen};
+ghost use Rattle.ctx_store.specs.Seen.{has, HasSeen};
 
 use crate::store::StoreRefusal;
 use iri_ref::is_well_formed;
@@ -91,16 +90,16 @@ fn entry_in(text: &str) -> Option<(&str, &str)>
 }
 
 // Adds an IRI, and answers whether it is new.
-fn add(alloc: Global, seen: &mut BTreeSet<String>, iri: &str) -> Result<bool, AllocError>
-    ensures new { IfOk result (λ added. added ≡ not (contains_text seen.old iri.now)) }
-    ensures seen { OnOk result ((q : List ℕ) → contains_text seen.new q ≡ cond (bytes_eq iri.now q) true (contains_text seen.old q)) }
+fn add<'a>(seen: &mut BTreeSet<&'a str>, iri: &'a str) -> Result<bool, AllocError>
+    ensures new { IfOk result (λ added. added ≡ not (has seen.old iri.now)) }
+    ensures seen { OnOk result ((q : List ℕ) → has seen.new q ≡ cond (bytes_eq iri.now q) true (has seen.old q)) }
 {
-    let added = seen.insert(String::from_str(alloc, iri)?)?;
+    let added = seen.insert(iri)?;
     Ok(added)
 }
 
 // Whether a line keeps the rule behind those before it, whose IRIs are in the set. Its own is added.
-fn keeps_rule(alloc: Global, seen: &mut BTreeSet<String>, line: &[u8]) -> Result<bool, AllocError>
+fn keeps_rule<'a>(seen: &mut BTreeSet<&'a str>, line: &'a [u8]) -> Result<bool, AllocError>
     ensures rule { IfOk result (λ keeps. (before : List (List ℕ)) → HasSeen seen.old before → keeps ≡ not (breaks before line.now)) }
     ensures seen { IfOk result (λ keeps. (before : List (List ℕ)) → HasSeen seen.old before → IsTrue keeps → HasSeen seen.new (iris_on line.now ++ before)) }
 {
@@ -108,7 +107,7 @@ fn keeps_rule(alloc: Global, seen: &mut BTreeSet<String>, line: &[u8]) -> Result
         return Ok(true);
     }
     match entry_on(line) {
-        Some((iri, _)) => add(alloc, seen, iri),
+        Some((iri, _)) => add(seen, iri),
         None => Ok(false),
     }
 }
@@ -124,7 +123,7 @@ pub(crate) fn check_index(alloc: Global, index: &[u8]) -> Result<(), StoreRefusa
         let (line, behind) = next_line(rest);
         rest = behind;
         number += 1;
-        if !keeps_rule(alloc, &mut seen, line)? {
+        if !keeps_rule(&mut seen, line)? {
             return Err(StoreRefusal::IndexLine { line: number });
         }
     }

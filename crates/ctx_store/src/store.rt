@@ -185,6 +185,8 @@ fn load_files<F: Folder>(alloc: Global, folder: &mut F, index: &[u8]) -> Result<
 /// an IRI that no line before it has, a space, and a file's name: 1 to 255 ASCII letters, digits, `.`, `_` and `-`, with no
 /// dot in front.
 ///
+/// A file that [`read_tree`] refuses is `Unreadable`, save where memory was refused.
+///
 /// # Errors
 ///
 /// - `IndexLine` exactly where a line of the index is none of these.

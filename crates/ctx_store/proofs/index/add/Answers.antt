@@ -1,10 +1,9 @@
-use Rattle.std.proofs.Common.{ap, ◌∙◌, true, cond}
-use Rattle.std.specs.Str.{bytes_eq}
-use Rattle.std.specs.BTreeSet.{contains_text}
-use Rattle.std.proofs.lemmas.Map.Text.{btree_set_updates_text}
+use Rattle.std.proofs.Common.{ap, ◌∙◌, true, cond, Bor, List, ℕ}
+use Rattle.std.proofs.lemmas.Map.Text.{is_eq-slice_cmp}
+use Rattle.ctx_store.specs.Seen.{has}
 use Rattle.ctx_store.proofs.index.add.Goals as goal
 
 pub returns-clause-seen : goal.returns-clause-seen
 returns-clause-seen c = λ q.
-    btree_set_updates_text c.in_ok-from_str.field-0.bytes.items c.args.seen.now c.insert.new.self _ c.in_ok-added.ensures.updates q
-    ∙ ap (λ iri. cond (bytes_eq iri q) true (contains_text c.args.seen.now q)) c.in_ok-from_str.ensures.ok
+    let text : Bor (List ℕ) = record { ref_ptr = (0, 0); now = q } in
+    c.in_ok-added.ensures.updates.0 text ∙ ap (λ b. cond b true (has c.args.seen.now q)) (is_eq-slice_cmp c.args.iri.now q)
