@@ -7,5 +7,6 @@ pub mod Files
 pub mod SourceState
 pub mod SinkState
 pub mod FolderState
+pub mod FolderReads
 pub mod Stock
 pub mod Named

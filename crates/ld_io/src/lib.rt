@@ -10,6 +10,7 @@
 #![tactic(auto)]
 
 mod calls;
+mod dir_folder;
 mod list_sink;
 mod list_source;
 mod map_folder;
@@ -17,6 +18,7 @@ mod streams;
 mod traits;
 mod whole;
 
+pub use dir_folder::DirFolder;
 pub use list_sink::ListSink;
 pub use list_source::ListSource;
 pub use map_folder::MapFolder;

@@ -1,9 +1,10 @@
 ghost use Rattle.std.specs.Prelude.{◌≤◌, IfOk};
 
 use super::*;
-use std::io;
+use std::fs::File;
 use std::io::{ErrorKind, Read, Write};
 use std::test::Fail;
+use std::{fs, io};
 
 #[test]
 fn a_source_gives_its_bytes_in_steps_and_fails_at_the_listed_calls(
@@ -233,4 +234,40 @@ fn a_real_writer_that_takes_nothing_or_breaks_is_a_fault(rt: HostRuntime) {
     assert_eq!(rt; sink.write(b"abc"), Ok(2));
     assert_eq!(rt; sink.write(b"c"), Err(Failed));
     assert_eq!(rt; sink.finish(), Err(Failed));
+}
+
+const FOLDER: &str = "dir_folder_test";
+
+/// A real folder with some files, of which one has as many bytes as a file may have and one has a
+/// byte more, and with a folder in it.
+fn make_folder(rt: &HostRuntime) -> io::Result<()> {
+    fs::create_dir_all(rt, "dir_folder_test/folder")?;
+    fs::write(rt, "dir_folder_test/small", b"{}".as_slice())?;
+    fs::write(rt, "dir_folder_test/empty", b"".as_slice())?;
+    File::create(rt, "dir_folder_test/at_limit")?.set_len(16_777_216)?;
+    File::create(rt, "dir_folder_test/past_limit")?.set_len(16_777_217)
+}
+
+#[test]
+fn a_real_folder_answers_whole_files_none_or_a_fault(rt: HostRuntime) -> Result<(), Fail> {
+    let alloc = rt.alloc();
+    make_folder(&rt)?;
+    for (folder, name, answer) in [
+        (FOLDER, "small", Ok(Some(2))),
+        (FOLDER, "empty", Ok(Some(0))),
+        (FOLDER, "at_limit", Ok(Some(16_777_216))),
+        (FOLDER, "past_limit", Err(FolderStop::Failed)),
+        (FOLDER, "folder", Err(FolderStop::Failed)),
+        (FOLDER, "absent", Ok(None)),
+        ("no_such_folder", "small", Ok(None)),
+        ("dir_folder_test/small", "small", Err(FolderStop::Failed)),
+    ] {
+        let mut dir = DirFolder::new(&rt, String::from_str(alloc, folder)?);
+        let got = dir
+            .read(alloc, name)
+            .map(|found| found.map(|bytes| bytes.len()));
+        assert_eq!(rt; got, answer, "{folder}/{name}");
+    }
+    fs::remove_dir_all(&rt, FOLDER)?;
+    Ok(())
 }

@@ -65,6 +65,33 @@ fn read_more<S: Source>(
     }
 }
 
+/// All the bytes that a source has left, at most `limit` of them. The source is then at its end.
+///
+/// It reads in turns of 64 KiB, takes at least one byte in each, and stops after the turn that gave
+/// the byte past the limit. So it takes at most `limit + 1` turns.
+pub(crate) fn read_within<S: Source>(
+    alloc: Global,
+    source: &mut S,
+    limit: usize,
+) -> Result<Vec<u8>, ReadStop>
+    ensures bytes { IfOk result (λ v. IfSome (S.left source.old) (λ xs. xs ≡ v.items)) }
+    ensures end { OnOk result (IsAtEnd (S.left source.new)) }
+    ensures within { IfOk result (λ v. vec_len v ≤ limit) }
+    ensures too_large { result ≡ Err ReadStop.TooLarge
+        → IfSome (S.left source.old) (λ xs. limit < length xs) }
+    ensures taken { OnErr result (TakesFront (S.left source.old) (S.left source.new)) }
+    ensures faults { CountsReadFaults (S.faults source.old) (S.faults source.new) result }
+{
+    let mut bytes = Vec::new(alloc);
+    let mut buffer = zeros(alloc, BUFFER)?;
+    while bytes.len() <= limit {
+        if read_more(source, buffer.as_mut_slice(), &mut bytes)? {
+            return Ok(bytes);
+        }
+    }
+    Err(ReadStop::TooLarge)
+}
+
 /// All the bytes that a source has left, at most [`LIMIT`] of them. The source is then at its end.
 ///
 /// It reads in turns of 64 KiB, takes at least one byte in each, and stops after the turn that gave
@@ -84,14 +111,7 @@ pub fn read_to_end<S: Source>(alloc: Global, source: &mut S) -> Result<Vec<u8>, 
     ensures taken { OnErr result (TakesFront (S.left source.old) (S.left source.new)) }
     ensures faults { CountsReadFaults (S.faults source.old) (S.faults source.new) result }
 {
-    let mut bytes = Vec::new(alloc);
-    let mut buffer = zeros(alloc, BUFFER)?;
-    while bytes.len() <= LIMIT {
-        if read_more(source, buffer.as_mut_slice(), &mut bytes)? {
-            return Ok(bytes);
-        }
-    }
-    Err(ReadStop::TooLarge)
+    read_within(alloc, source, LIMIT)
 }
 
 /// Writes all the bytes. Where there are none, the sink stays as it was.

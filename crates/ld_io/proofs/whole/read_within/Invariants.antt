@@ -1,6 +1,6 @@
-use Rattle.std.proofs.Common.{◌≡◌, ◌-◌, ◌<◌, vec_len}
+use Rattle.std.proofs.Common.{◌≡◌, ◌+◌, ◌-◌, ◌<◌, vec_len}
 use Rattle.std.specs.Io.KnownBytes.{Consumes}
-use Rattle.ld_io.proofs.whole.read_to_end.Given as goal
+use Rattle.ld_io.proofs.whole.read_within.Given as goal
 
 abbrev pub invariant-loop-source : goal.invariant-loop-source
 invariant-loop-source g l =
@@ -11,4 +11,4 @@ invariant-loop-source g l =
     }
 
 abbrev pub decreases-loop-source : goal.decreases-loop-source
-decreases-loop-source g l = 268435457 - vec_len l.bytes
+decreases-loop-source g l = (l.limit + 1) - vec_len l.bytes

@@ -1,5 +1,5 @@
 use Rattle.ld_io.proofs.Turns.{TakesFront-more}
-use Rattle.ld_io.proofs.whole.read_to_end.Goals as goal
+use Rattle.ld_io.proofs.whole.read_within.Goals as goal
 
 pub returns-in_err-read_more-clause-taken : goal.returns-in_err-read_more-clause-taken
 returns-in_err-read_more-clause-taken g c =
