@@ -5,12 +5,7 @@ use Rattle.std.proofs.lemmas.List.Sums.{sum_by-cons}
 use Rattle.case_tables.specs.declared.keyword.Keyword.{Keyword}
 use Rattle.case_tables.specs.declared.keyword.Keyword.TheVariants.{Base, Graph, Id, Index, Language, List as ListWord, Set, TypeWord}
 use Rattle.case_tables.specs.declared.shape.Shape.{Shape}
-use Rattle.case_tables.specs.Shape.{has, count, is_word, HasWords, with_word}
-
--- the shape with these words more
-abbrev pub gather : List Keyword → Shape → Option Shape
-gather [] s = Some s
-gather (w ∷ ws) s = option_and_then (gather ws) (with_word s w)
+use Rattle.case_tables.specs.Shape.{has, count, is_word, HasWords, with_word, with_words}
 
 -- a word that is put adds itself, and nothing else
 abbrev pub Adds : Shape → Keyword → Option Shape → Type 0
@@ -77,15 +72,15 @@ at_most_one false = omega arith
 abbrev pub Puts : List Keyword → Shape → Shape → Type 0
 Puts ws s t = (k : Keyword) → count (has t k) ≡ count (has s k) + count_by (is_word k) ws
 
-puts_more : (w : Keyword) (ws : List Keyword) (s t : Shape) (o : Option Shape) → Adds s w o → ((u : Shape) → gather ws u ≡ Some t → Puts ws u t) → option_and_then (gather ws) o ≡ Some t → Puts (w ∷ ws) s t
+puts_more : (w : Keyword) (ws : List Keyword) (s t : Shape) (o : Option Shape) → Adds s w o → ((u : Shape) → with_words ws u ≡ Some t → Puts ws u t) → option_and_then (with_words ws) o ≡ Some t → Puts (w ∷ ws) s t
 puts_more w ws s t None a rest h k = absurd cc
 puts_more w ws s t (Some u) a rest h k =
     let one = a k in let more = rest u h k in
     omega (arith, one, more, count_by-cons (is_word k) w ws)
 
-gathered : (ws : List Keyword) (s t : Shape) → gather ws s ≡ Some t → Puts ws s t
-gathered [] s t h k = let same : s ≡ t = cc in rw same (sym (add-zero (count (has t k))))
-gathered (w ∷ ws) s t h k = puts_more w ws s t (with_word s w) (adds s w) (λ u e. gathered ws u t e) h k
+with_wordsed : (ws : List Keyword) (s t : Shape) → with_words ws s ≡ Some t → Puts ws s t
+with_wordsed [] s t h k = let same : s ≡ t = cc in rw same (sym (add-zero (count (has t k))))
+with_wordsed (w ∷ ws) s t h k = puts_more w ws s t (with_word s w) (adds s w) (λ u e. with_wordsed ws u t e) h k
 
 same_count : (a b : Bool) → count a ≡ count b → a ≡ b
 same_count true true h = refl
@@ -109,19 +104,19 @@ same_shape s t h =
     let same : shape_of s.graph s.id s.index s.language s.list s.set s.types ≡ shape_of t.graph t.id t.index t.language t.list t.set t.types = cc in
     same
 
-gathers_more : (w : Keyword) (ws : List Keyword) (s t : Shape) (o : Option Shape) → Adds s w o → ((u : Shape) → Puts ws u t → gather ws u ≡ Some t) → Puts (w ∷ ws) s t → option_and_then (gather ws) o ≡ Some t
-gathers_more w ws s t None (inl had) rest h =
+with_wordss_more : (w : Keyword) (ws : List Keyword) (s t : Shape) (o : Option Shape) → Adds s w o → ((u : Shape) → Puts ws u t → with_words ws u ≡ Some t) → Puts (w ∷ ws) s t → option_and_then (with_words ws) o ≡ Some t
+with_wordss_more w ws s t None (inl had) rest h =
     let there = h w in let small = at_most_one (has t w) in
     absurd (omega (arith, there, small, ap count had, ap count (is_word-same w), count_by-cons (is_word w) w ws))
-gathers_more w ws s t None (inr none) rest h =
+with_wordss_more w ws s t None (inr none) rest h =
     let there = h w in
     absurd (omega (arith, there, ap count (none t), ap count (is_word-same w), count_by-cons (is_word w) w ws))
-gathers_more w ws s t (Some u) a rest h =
+with_wordss_more w ws s t (Some u) a rest h =
     rest u (λ k. let one = a k in let all = h k in omega (arith, one, all, count_by-cons (is_word k) w ws))
 
-gathers : (ws : List Keyword) (s t : Shape) → Puts ws s t → gather ws s ≡ Some t
-gathers [] s t h = ap Some (same_shape s t (λ k. sym (h k ∙ add-zero (count (has s k)))))
-gathers (w ∷ ws) s t h = gathers_more w ws s t (with_word s w) (adds s w) (λ u e. gathers ws u t e) h
+with_wordss : (ws : List Keyword) (s t : Shape) → Puts ws s t → with_words ws s ≡ Some t
+with_wordss [] s t h = ap Some (same_shape s t (λ k. sym (h k ∙ add-zero (count (has s k)))))
+with_wordss (w ∷ ws) s t h = with_wordss_more w ws s t (with_word s w) (adds s w) (λ u e. with_wordss ws u t e) h
 
 none_has_nothing : (k : Keyword) → has (shape_of false false false false false false false) k ≡ false
 unfolding shape_of
@@ -129,10 +124,10 @@ none_has_nothing Base = refl
 none_has_nothing k = refl
 
 -- the words make a shape out of none just where it has them
-pub gather_iff : (ws : List Keyword) (none s : Shape) → none ≡ record { graph = false; id = false; index = false; language = false; list = false; set = false; types = false } → (gather ws none ≡ Some s) ↔ HasWords ws s
+pub with_words_iff : (ws : List Keyword) (none s : Shape) → none ≡ record { graph = false; id = false; index = false; language = false; list = false; set = false; types = false } → (with_words ws none ≡ Some s) ↔ HasWords ws s
 unfolding shape_of
-gather_iff ws none s is =
+with_words_iff ws none s is =
     let nothing : (k : Keyword) → count (has none k) ≡ 0 = λ k. rw is (ap count (none_has_nothing k)) in (
-      λ h k. let puts = gathered ws none s h k in let zero_there = nothing k in omega (arith, puts, zero_there),
-      λ h. gathers ws none s (λ k. let puts = h k in let zero_there = nothing k in omega (arith, puts, zero_there)),
+      λ h k. let puts = with_wordsed ws none s h k in let zero_there = nothing k in omega (arith, puts, zero_there),
+      λ h. with_wordss ws none s (λ k. let puts = h k in let zero_there = nothing k in omega (arith, puts, zero_there)),
     )

@@ -1,5 +1,6 @@
 -- The words of a container mapping (JSON-LD 1.1 API, section 4.2.2, step 19).
-use Rattle.std.specs.Prelude.{◌≡◌, ℕ, ◌+◌, ◌==◌, Bool, true, false, ◌&&◌, ◌||◌, not, if◌then◌else◌, List, Option, Some, None, count_by}
+use Rattle.std.specs.Prelude.{◌≡◌, ℕ, ◌+◌, ◌==◌, Bool, true, false, ◌&&◌, ◌||◌, not, if◌then◌else◌, List, [], ◌∷◌, Option, Some, None, count_by}
+use Rattle.std.specs.Option.{option_and_then}
 use Rattle.std.specs.Str.{bytes_eq}
 use Rattle.case_tables.specs.declared.keyword.Keyword.{Keyword}
 use Rattle.case_tables.specs.declared.keyword.Keyword.TheVariants.{Graph, Id, Index, Language, List as ListWord, Set, TypeWord}
@@ -55,3 +56,16 @@ with_word s ListWord = if s.list then None else Some (record s { list = true })
 with_word s Set = if s.set then None else Some (record s { set = true })
 with_word s TypeWord = if s.types then None else Some (record s { types = true })
 with_word s _ = None
+
+-- the shape with these words more, where it may have each of them
+abbrev pub with_words : List Keyword → Shape → Option Shape
+with_words [] s = Some s
+with_words (k ∷ ks) s = option_and_then (with_words ks) (with_word s k)
+
+-- the shape with no word
+abbrev pub no_words : Shape
+no_words = record { graph = false; id = false; index = false; language = false; list = false; set = false; types = false }
+
+-- the shape of a container mapping with these words
+abbrev pub shape_of : List Keyword → Option Shape
+shape_of ks = option_and_then (λ s. if is_allowed s then Some s else None) (with_words ks no_words)

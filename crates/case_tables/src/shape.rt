@@ -1,6 +1,6 @@
 //! The shapes of containers.
 ghost use Rattle.std.specs.Prelude.{◌≡◌, ◌↔◌, Bool, false, Some, IsTrue};
-ghost use Rattle.case_tables.specs.Shape.{HasWords, is_allowed, with_word};
+ghost use Rattle.case_tables.specs.Shape.{HasWords, is_allowed, shape_of, with_word};
 
 use crate::Keyword;
 
@@ -95,7 +95,8 @@ impl Shape {
 /// `@graph` with one of `@id` and `@index`, and perhaps `@set`; and `@set` with one of `@graph`,
 /// `@id`, `@index`, `@language` and `@type`.
 pub fn container_shape(words: &[Keyword]) -> Option<Shape>
-    ensures { (s : Shape) → (result ≡ Some s) ↔ (HasWords words.now s × IsTrue (is_allowed s)) }
+    ensures words { (s : Shape) → (result ≡ Some s) ↔ (HasWords words.now s × IsTrue (is_allowed s)) }
+    ensures shape { result ≡ shape_of words.now }
 {
     let mut shape = Shape::none();
     for word in words {

@@ -1,5 +1,6 @@
 -- Active contexts and term definitions as plain data (JSON-LD 1.1 API, section 4.1).
 use Rattle.std.specs.Prelude.{ℕ, Bool, List, [], Option, None}
+use Rattle.std.specs.List.{list_any}
 use Rattle.std.specs.Map.{lookup}
 use Rattle.std.specs.BTreeMap.{is_at}
 use Rattle.ld_model.specs.Tree.{Tree, byte_order}
@@ -49,6 +50,10 @@ pub record Context : Type 0 where
 -- The definition of a term.
 abbrev pub definition_at : Text → Terms → Option Definition
 definition_at t ds = lookup (is_at (byte_order t)) ds
+
+-- A definition is protected.
+abbrev pub has_protected : Terms → Bool
+has_protected ds = list_any (λ d. d.1.protected) ds
 
 -- A newly initialized active context (section 4.1): it has the base URL, as base and as original base, and nothing else.
 abbrev pub initial : Option Text → Context

@@ -88,7 +88,8 @@ fn agree(a: &TermDef, b: &TermDef) -> bool
         && same_text(&a.kind, &b.kind)
 }
 
-fn same_text(a: &Option<Text>, b: &Option<Text>) -> bool
+/// Whether both texts are absent, or both are there and equal.
+pub fn same_text(a: &Option<Text>, b: &Option<Text>) -> bool
     ensures { result ≡ same_option bytes_eq a.now b.now }
 {
     match (a, b) {

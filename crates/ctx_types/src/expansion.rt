@@ -67,8 +67,9 @@ fn has_letters_alone(bytes: &[u8]) -> bool
     bytes.iter().all(|byte| byte.is_ascii_alphabetic())
 }
 
-// The mapping of a term that has this definition, where the term stands for it: steps 4 and 5.
-fn by_definition(
+/// What a text stands for where it is a term with this definition: steps 4 and 5 of IRI expansion. None where the term does
+/// not stand for it, and Some(None) where it stands for null.
+pub fn by_definition(
     alloc: Global,
     vocab: bool,
     definition: Option<&TermDef>,
@@ -90,8 +91,8 @@ fn by_definition(
     }
 }
 
-// A text for which no term stands: steps 6 to 9.
-fn as_iri(
+/// What a text stands for where no term does: steps 6 to 9 of IRI expansion.
+pub fn as_iri(
     alloc: Global,
     context: &ActiveContext,
     text: &str,
@@ -137,8 +138,9 @@ fn by_parts(
     }
 }
 
-// What stands before the first colon and behind it, where a colon stands after the first character.
-fn colon_parts(text: &str) -> Option<(&str, &str)>
+/// What stands before the first colon of a text and behind it, where a colon stands after its first character: steps 6 and
+/// 6.1 of IRI expansion.
+pub fn colon_parts(text: &str) -> Option<(&str, &str)>
     ensures { option_map (λ p. (p.0.now, p.1.now)) result ≡ steps.colon_parts text.now }
 {
     match text.split_once(':') {
@@ -159,7 +161,9 @@ fn has_colon(text: &str) -> bool
     text.bytes().any(|byte| byte == b':')
 }
 
-fn is_whole(prefix: &str, suffix: &str) -> bool
+/// Whether these parts of a text are those of a blank node identifier, or of an IRI with an authority: step 6.2 of IRI
+/// expansion.
+pub fn is_whole(prefix: &str, suffix: &str) -> bool
     ensures { result ≡ steps.is_whole (prefix.now, suffix.now) }
 {
     prefix == "_" || suffix.starts_with("//")
@@ -231,7 +235,8 @@ fn by_base(
     }
 }
 
-fn joined(alloc: Global, front: &str, rest: &str) -> Result<Text, AllocError>
+/// A text and another behind it.
+pub fn joined(alloc: Global, front: &str, rest: &str) -> Result<Text, AllocError>
     ensures { IfOk result (λ t. t ≡ front.now ++ rest.now) }
 {
     let mut string = String::from_str(alloc, front)?;

@@ -15,8 +15,10 @@ mod sorted;
 mod terms;
 
 pub use context::{ActiveContext, Previous};
-pub use definition::{Side, Slot, TermDef};
-pub use expansion::{expand_iri, has_keyword_form, is_keyword};
+pub use definition::{Side, Slot, TermDef, same_text};
+pub use expansion::{
+    as_iri, by_definition, colon_parts, expand_iri, has_keyword_form, is_keyword, is_whole, joined,
+};
 pub use shared::Shared;
 pub use sorted::Sorted;
 pub use terms::Terms;

@@ -5,7 +5,7 @@ ghost use Rattle.std.specs.Option.{option_map};
 ghost use Rattle.std.specs.Map.{lookup, remove_entry};
 ghost use Rattle.std.specs.BTreeMap.{is_at, insert_entry};
 ghost use Rattle.ld_model.specs.Tree.{byte_order};
-ghost use Rattle.ctx_types.specs.Context.{definition_at};
+ghost use Rattle.ctx_types.specs.Context.{definition_at, has_protected};
 ghost use Rattle.ctx_types.specs.Sorted.{IsAscending};
 ghost use Rattle.ctx_types.specs.View.{definition_view, terms_view, table_view};
 
@@ -100,6 +100,29 @@ impl Terms {
         set_in(&mut self.table, alloc, key, Shared::new(alloc, definition)?)
     }
 
+    /// The same as `set`, with a definition that has other owners, and that is not copied.
+    pub fn put(
+        &mut self,
+        alloc: Global,
+        key: Text,
+        definition: Shared<TermDef>,
+    ) -> Result<(), AllocError>
+        ensures ok { OnOk result (self.new ≡ insert_entry byte_order self.old key (definition_view definition)) }
+        ensures err { OnErr result (self.new ≡ self.old) }
+    {
+        set_in(&mut self.table, alloc, key, definition)
+    }
+
+    /// Whether a definition is protected. It takes a time that grows with the number of terms.
+    pub fn has_protected(&self) -> bool
+        ensures { result ≡ has_protected self.now }
+    {
+        match &self.table {
+            None => false,
+            Some(table) => any_protected(table.as_slice()),
+        }
+    }
+
     /// Takes a term out with its definition, which it gives without a copy; None where there is no such term. It wants
     /// memory where the terms have another owner, and where memory is refused they stay as they were.
     pub fn remove(
@@ -113,6 +136,17 @@ impl Terms {
     {
         remove_in(&mut self.table, alloc, key)
     }
+}
+
+fn any_protected(terms: &[(Shared<Text>, Shared<TermDef>)]) -> bool
+    ensures { result ≡ has_protected (terms_view terms.now) }
+{
+    for term in terms {
+        if term.1.get().protected {
+            return true;
+        }
+    }
+    false
 }
 
 #[tactic(auto, using(crate::proofs::Views::lookup_view))]

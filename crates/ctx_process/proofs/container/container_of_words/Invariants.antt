@@ -1,0 +1,10 @@
+-- The words so far, and those of the values that are left.
+use Rattle.std.proofs.Common.{◌≡◌, ◌++◌, drop}
+use Rattle.std.specs.Option.{option_map}
+use Rattle.ld_model.specs.Tree.{trees_of}
+use Rattle.ld_json.specs.View.{trees_view}
+use Rattle.ctx_process.specs.Definition.{all_words}
+use Rattle.ctx_process.proofs.container.container_of_words.Given as goal
+
+abbrev pub invariant-loop-value : goal.invariant-loop-value
+invariant-loop-value l = option_map (λ ks. l.words.items ++ ks) (all_words (trees_of (trees_view (drop l.value-index l.values)))) ≡ all_words (trees_of (trees_view l.values))

@@ -1,0 +1,20 @@
+use Rattle.std.proofs.Common.{◌≡◌, true, false, ap, sym, ◌∙◌, arith}
+use Rattle.std.proofs.lemmas.Grind.{common_steps}
+use Rattle.ld_json.specs.View.{view}
+use Rattle.ctx_types.specs.Expansion.{has_keyword_form}
+use Rattle.ctx_process.specs.Definition.{entries_of}
+use Rattle.ctx_process.specs.Creation as steps
+use Rattle.ctx_process.specs.View.{creation, local_view, scoped_view, state_view}
+use Rattle.ctx_process.proofs.Steps.{leaves_of, reverse_step}
+use Rattle.ctx_process.proofs.mapping.create_reverse.Goals as goal
+
+pub returns-else-has_keyword_form : goal.returns-else-has_keyword_form
+returns-else-has_keyword_form g c =
+    let es = entries_of (view c.args.value.now) in
+    let alone : steps.is_reverse_alone (entries_of (view c.args.value.now)) ≡ true = grind (arith, common_steps) in
+    let free : has_keyword_form c.in-Str.text ≡ false = ap has_keyword_form (sym c.as_str.ensures) ∙ sym c.has_keyword_form.ensures ∙ c.if-has_keyword_form.false in
+    leaves_of c.reverse_named.result (state_view c.reverse_named.new.state)
+    (ap (λ v. steps.reverse_created (λ t v s. creation c.args.local.now t v s) (λ x v. scoped_view c.args.local.now x v) (local_view c.args.local.now) c.args.term.now (view v) es c.args.protected c.args.kind (state_view c.args.state.now)) c.in-Str.is
+    ∙ reverse_step (λ t v s. creation c.args.local.now t v s) (λ x v. scoped_view c.args.local.now x v) (local_view c.args.local.now) c.args.term.now c.in-Str.text es c.args.protected c.args.kind (state_view c.args.state.now) alone free
+    ∙ ap (λ x. steps.reverse_named (λ t v s. creation c.args.local.now t v s) (λ x v. scoped_view c.args.local.now x v) (local_view c.args.local.now) c.args.term.now x es c.args.protected c.args.kind (state_view c.args.state.now)) (sym c.as_str-else-has_keyword_form.ensures))
+    c.reverse_named.ensures
