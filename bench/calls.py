@@ -2,7 +2,10 @@
 """Measures single calls on inputs of growing size: calls.py PROGRAM, for instance calls.py crates/call_bench/out/call_bench.
 
 `resolve` resolves references of up to three segments with dots, `canonical` writes a document of plain nodes canonically;
-the time of `canonical` has the reading of the document in it. Prints one table.
+the time of `canonical` has the reading of the document in it. `read` reads a document of which every other value is a
+number. `load` reads a folder of 100 contexts, each of 100 terms,
+and looks their IRIs up. `process` reads a context and processes it, and `copy` does the same and then copies the outcome
+100,000 times. Prints one table.
 """
 import os
 import subprocess
@@ -20,6 +23,35 @@ def references(count):
         yield reference % i if "%d" in reference else reference
 
 
+def numbers(size):
+    """A document of about this many bytes, of which every other value is a number."""
+    node = '{"@id":"http://e/%d","http://e/p":[%d,-%d,0,9007199254740992,"%d",true,null,{"@version":1.1}]}'
+    count = size // (len(node) + 16)
+    yield "["
+    for i in range(count):
+        yield ("," if i else "") + node % (i, i + 1, i + 1, i)
+    yield "]"
+
+
+def context(terms):
+    """A context in which each term but for the first needs the prefix, and every tenth has a type."""
+    entries = ['"p":"http://e/v#"']
+    for i in range(terms - 1):
+        entries.append(('"t%d":{"@id":"p:t%d","@type":"@id"}' if i % 10 == 0 else '"t%d":"p:t%d"') % (i, i))
+    return "{%s}" % ",".join(entries)
+
+
+def fill(folder, count, terms):
+    """Writes a folder of contexts with its index, and gives their IRIs."""
+    iris = ["http://e/c%d" % i for i in range(count)]
+    with open(os.path.join(folder, "index.txt"), "w") as index:
+        for i, iri in enumerate(iris):
+            index.write("%s c%d.json\n" % (iri, i))
+            with open(os.path.join(folder, "c%d.json" % i), "w") as out:
+                out.write('{"@context":%s}' % context(terms))
+    return iris
+
+
 def main():
     program = os.path.abspath(sys.argv[1])
     print("%s, %d processors" % (processor(), os.cpu_count()))
@@ -34,10 +66,24 @@ def main():
             with open(path, "wb") as out:
                 subprocess.run([sys.executable, os.path.join(HERE, "plain.py"), str(size)], stdout=out, check=True)
             show(program, "canonical", "a tree", path)
+        for size in (10**6, 10**7, 10**8):
+            with open(path, "w") as out:
+                out.writelines(numbers(size))
+            show(program, "read", "numbers", path)
+        contexts = os.path.join(folder, "contexts")
+        os.mkdir(contexts)
+        with open(path, "w") as out:
+            out.writelines(iri + "\n" for iri in fill(contexts, 100, 100))
+        show(program, "load", "100 files", path, contexts)
+        for terms in (10, 100, 1000, 10**4, 10**5):
+            with open(path, "w") as out:
+                out.write(context(terms))
+            for call in ("process", "copy"):
+                show(program, call, "%d terms" % terms, path)
 
 
-def show(program, call, of, path):
-    wall, cpu, peak = measure([program, call], path)
+def show(program, call, of, path, *words):
+    wall, cpu, peak = measure([program, call, *words], path)
     print("%12s %12s %12d %9.3f %9.3f %9.1f" % (call, of, os.path.getsize(path), wall, cpu, peak / 1e6))
 
 

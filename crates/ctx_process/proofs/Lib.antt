@@ -1,3 +1,4 @@
+mod Examples
 pub mod ContextSteps
 pub mod Held
 pub mod Listed

@@ -26,3 +26,6 @@ mod words;
 
 pub use processing::{Flags, process};
 pub use stop::ContextStop;
+
+#[cfg(test)]
+mod tests;

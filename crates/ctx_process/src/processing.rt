@@ -30,7 +30,7 @@ const REMOTE_CONTEXTS: u32 = 32;
 const SCOPED_CONTEXTS: u32 = 128;
 
 /// How many terms and contexts may be under way, each for the sake of the one before: what the stack is sure to hold.
-const CALLS: u32 = 2_000;
+const CALLS: u32 = 500;
 
 /// How a local context is processed.
 #[derive(Clone, Copy, Debug, PartialEq, Eq)]
@@ -58,7 +58,7 @@ pub struct Flags {
 /// - `Refused` exactly where the standard's algorithm ends in that error; the 33rd remote context of a chain is
 ///   `context overflow`, the 129th scoped context under way is `invalid scoped context`, and an IRI without a scheme, or one
 ///   that the store doesn't have or has as unreadable, is `loading remote context failed`.
-/// - `OutOfMemory` where memory is refused, or where more than 2,000 terms and contexts would be under way, each for the sake
+/// - `OutOfMemory` where memory is refused, or where more than 500 terms and contexts would be under way, each for the sake
 ///   of the one before.
 #[tactic(auto, unfolding(crate::specs::Process::process))]
 pub fn process(
