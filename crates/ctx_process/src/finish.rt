@@ -156,11 +156,6 @@ fn describe(
     let base = scoped_base(alloc, local, scoped)?;
     let context = copied(alloc, scoped)?;
     let (container, kind) = contents;
-    let Tags {
-        language,
-        side,
-        nest,
-    } = tags;
     Ok(TermDef {
         mapping: iri,
         prefix,
@@ -169,10 +164,10 @@ fn describe(
         base,
         local: context,
         container,
-        side,
+        side: tags.side,
         index,
-        language,
-        nest,
+        language: tags.language,
+        nest: tags.nest,
         kind,
     })
 }

@@ -1,3 +1,4 @@
+pub mod BranchView
 pub mod Context
 pub mod ContextCode
 pub mod ContextView

@@ -126,6 +126,51 @@ fn a_copy_keeps_its_terms_when_another_changes(rt: HostRuntime) -> Result<(), Fa
     Ok(())
 }
 
+// A name for a number below 900,000: the names are in the order of the numbers.
+fn name(alloc: Global, number: usize) -> Result<Text, AllocError> {
+    let name = format!(in alloc; "{}", number.wrapping_add(100_000))?;
+    Text::new(alloc, &name)
+}
+
+// 4096 terms, each with its name for a mapping, put in an order that goes on by this step.
+fn numbered(alloc: Global, step: usize) -> Result<Terms, AllocError> {
+    let mut terms = Terms::new();
+    let mut number = 0usize;
+    for _ in 0..4096 {
+        let definition = defined(Some(name(alloc, number)?), false);
+        terms.set(alloc, name(alloc, number)?, definition)?;
+        number = number.wrapping_add(step) % 4096;
+    }
+    Ok(terms)
+}
+
+#[test]
+fn many_terms_are_put_and_taken_in_any_order(rt: HostRuntime) -> Result<(), Fail> {
+    let alloc = rt.alloc();
+    for step in [1usize, 2741, 4095] {
+        let mut terms = numbered(alloc, step)?;
+        let copy = terms.copy()?;
+        let mut number = 1usize;
+        for _ in 0..2048 {
+            let removed = terms.remove(alloc, name(alloc, number)?.as_str())?;
+            assert!(rt; removed.is_some(), "{number}");
+            number = number.wrapping_add(step).wrapping_add(step) % 4096;
+        }
+        assert!(rt; terms.len() == 2048 && copy.len() == 4096);
+        for number in 0..2048usize {
+            let even = name(alloc, 2 * number)?;
+            let here = mapping_at(&terms, number);
+            assert_eq!(rt; here, Some((even.as_str(), even.as_str())));
+            let there = mapping_at(&copy, 2 * number);
+            assert_eq!(rt; there, here);
+            let odd = name(alloc, 2 * number + 1)?;
+            assert!(rt; terms.get(even.as_str()).is_some() && copy.get(even.as_str()).is_some());
+            assert!(rt; terms.get(odd.as_str()).is_none() && copy.get(odd.as_str()).is_some());
+        }
+    }
+    Ok(())
+}
+
 // The term with this number, and its mapping.
 fn mapping_at(terms: &Terms, number: usize) -> Option<(&str, &str)> {
     let (term, definition) = terms.at(number)?;
