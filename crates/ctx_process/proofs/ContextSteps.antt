@@ -13,11 +13,11 @@ use Rattle.ctx_types.specs.Context.{Text, Context}
 use Rattle.ctx_store.specs.Stored.{Contexts}
 use Rattle.ctx_process.specs.declared.stop.ContextStop.{ContextStop}
 use Rattle.ctx_process.specs.declared.stop.ContextStop.TheVariants.{Refused, OutOfMemory}
-use Rattle.ctx_process.specs.Outcome.{◌>>=◌}
-use Rattle.ctx_process.specs.Words.{is_true}
-use Rattle.ctx_process.specs.State.{State, Local, Scoped, mark_of}
-use Rattle.ctx_process.specs.Creation.{create_within, create_new, unless_defined}
-use Rattle.ctx_process.specs.Process.{Ask, Process, Remote, process_within, processed, items_of, propagates_in, with_previous, items_taken, item_taken, remote_taken, map_taken, terms_taken, terms_created, scoped_ask, resolved_by}
+use Rattle.ctx_model.specs.Outcome.{◌>>=◌}
+use Rattle.ctx_model.specs.Words.{is_true}
+use Rattle.ctx_model.specs.State.{State, Local, Scoped, mark_of}
+use Rattle.ctx_model.specs.Creation.{create_within, create_new, unless_defined}
+use Rattle.ctx_model.specs.Process.{Ask, Process, Remote, process_within, processed, items_of, propagates_in, with_previous, items_taken, item_taken, remote_taken, map_taken, terms_taken, terms_created, scoped_ask, resolved_by}
 use Rattle.ctx_process.specs.Answers.{Refuses, Answers}
 use Rattle.ctx_process.specs.View.{remote_of, scoped_of, pairs_view}
 

@@ -1,4 +1,3 @@
-mod Examples
 pub mod ContextSteps
 pub mod Held
 pub mod Listed

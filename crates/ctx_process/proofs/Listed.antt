@@ -5,7 +5,7 @@ use Rattle.std.specs.Ordering.{is_eq, ordering_reverse}
 use Rattle.std.specs.List.Sorted.{IsStrictlySortedBy}
 use Rattle.std.proofs.lemmas.Cmp.{nat_list_cmp_total}
 use Rattle.ld_model.specs.Tree.{Tree, Pairs, members_of, member_list, member_list-members_of, member_at, byte_order, AreAscending}
-use Rattle.ctx_process.specs.Process.{merged}
+use Rattle.ctx_model.specs.Process.{merged}
 
 -- What is said of an object's entries, said of the list that they were made of.
 pub of_object : {X : Type 0} (f : Pairs → X) (ms : Pairs) → f (member_list (members_of ms)) ≡ f ms

@@ -8,8 +8,8 @@ use Rattle.case_tables.specs.declared.keyword.Keyword.{Keyword}
 use Rattle.case_tables.specs.declared.keyword.Keyword.TheVariants.{Base}
 use Rattle.ctx_types.specs.Context.{Text}
 use Rattle.ctx_types.specs.Expansion.{keywords}
-use Rattle.ctx_process.specs.Words.{ends_in_delimiter, is_delimiter}
-use Rattle.ctx_process.specs.Definition.{keyword_at}
+use Rattle.ctx_model.specs.Words.{ends_in_delimiter, is_delimiter}
+use Rattle.ctx_model.specs.Definition.{keyword_at}
 
 at_name : (k : Keyword) → keyword_at (keyword_name k) keywords ≡ Some k
 at_name Base = refl

@@ -4,9 +4,9 @@ use Rattle.std.specs.Prelude.{codes}
 use Rattle.ld_model.specs.Tree.{Tree, Pairs, text, member_at}
 use Rattle.ctx_types.specs.Context.{Definition}
 use Rattle.ctx_types.specs.Expansion.{has_keyword_form}
-use Rattle.ctx_process.specs.State.{State, Local, Create, Scoped, mark}
-use Rattle.ctx_process.specs.Definition.{entries_of, protected_by}
-use Rattle.ctx_process.specs.Creation.{is_reverse_alone, reverse_created, reverse_valued, reverse_named, is_compared, agreeing, own_agrees, is_reserved, id_mapping, id_named, kind_of, directed, defined_by}
+use Rattle.ctx_model.specs.State.{State, Local, Create, Scoped, mark}
+use Rattle.ctx_model.specs.Definition.{entries_of, protected_by}
+use Rattle.ctx_model.specs.Creation.{is_reverse_alone, reverse_created, reverse_valued, reverse_named, is_compared, agreeing, own_agrees, is_reserved, id_mapping, id_named, kind_of, directed, defined_by}
 use Rattle.case_tables.specs.declared.code.Code.{Code}
 use Rattle.ctx_process.specs.declared.stop.ContextStop.{ContextStop}
 use Rattle.ctx_process.specs.Answers.{Answers, Leaves, Gives}

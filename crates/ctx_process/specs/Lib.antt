@@ -1,12 +1,5 @@
 pub mod Answers
-pub mod Creation
-pub mod Definition
-pub mod LocalExpansion
 pub mod MarksView
 pub mod Merge
-pub mod Outcome
-pub mod Process
-pub mod State
 pub mod TagsView
 pub mod View
-pub mod Words

@@ -2,7 +2,7 @@
 use Rattle.std.specs.Prelude.{◌≡◌, ◌<◌, ◌+◌, [], ◌∷◌, Option, Some, None, length}
 use Rattle.ld_model.specs.Tree as model
 use Rattle.ld_json.specs.View.{members_view}
-use Rattle.ctx_process.specs.Process.{merged}
+use Rattle.ctx_model.specs.Process.{merged}
 use Rattle.ctx_process.specs.View.{pair_view}
 use Rattle.ctx_process.specs.declared.local.First.{First}
 

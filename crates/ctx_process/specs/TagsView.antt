@@ -1,5 +1,5 @@
 -- The settings that `@language`, `@direction` and `@nest` make, as data.
-use Rattle.ctx_process.specs.Definition as model
+use Rattle.ctx_model.specs.Definition as model
 use Rattle.ctx_process.specs.declared.finish.Tags.{Tags}
 
 abbrev pub tags_view : Tags → model.Tags

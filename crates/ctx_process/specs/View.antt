@@ -9,10 +9,10 @@ use Rattle.ctx_types.specs.declared.definition.TermDef.{TermDef}
 use Rattle.ctx_types.specs.Context.{Text, Definition}
 use Rattle.ctx_types.specs.View.{definition_view}
 use Rattle.ctx_types.specs.ContextView.{context_view}
-use Rattle.ctx_process.specs.State.{State, Local, Scoped, Create}
-use Rattle.ctx_process.specs.Definition.{Mapping, maps, leaves_out}
-use Rattle.ctx_process.specs.Creation.{create_within, Start as StartData, over, goes_on}
-use Rattle.ctx_process.specs.Process.{Ask as AskData, Remote, Process, merged, process_within, overflows, goes_into, too_deep, scoped_ask}
+use Rattle.ctx_model.specs.State.{State, Local, Scoped, Create}
+use Rattle.ctx_model.specs.Definition.{Mapping, maps, leaves_out}
+use Rattle.ctx_model.specs.Creation.{create_within, Start as StartData, over, goes_on}
+use Rattle.ctx_model.specs.Process.{Ask as AskData, Remote, Process, merged, process_within, overflows, goes_into, too_deep, scoped_ask}
 use Rattle.ctx_process.specs.declared.state.Progress.{Progress}
 use Rattle.ctx_process.specs.declared.local.Entries.{Entries}
 use Rattle.ctx_process.specs.declared.local.LocalContext.{LocalContext}

@@ -6,7 +6,7 @@ ghost use Rattle.ld_model.specs.Tree.{trees_of};
 ghost use Rattle.ld_json.specs.View.{view, trees_view};
 ghost use Rattle.ctx_types.specs.Expansion.{keywords};
 ghost use Rattle.ctx_process.specs.Answers.{Answers};
-ghost use Rattle.ctx_process.specs.Definition as steps;
+ghost use Rattle.ctx_model.specs.Definition as steps;
 ghost use Rattle.ctx_process.specs.View.{tree_view};
 
 use crate::stop::ContextStop;

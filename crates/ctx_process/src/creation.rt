@@ -1,10 +1,10 @@
 // Term creation (JSON-LD 1.1 API, section 4.2.2), where a term that is needed on the way is created by a call that is given.
 ghost use Rattle.std.specs.Prelude.{◌≡◌, codes};
 ghost use Rattle.ld_model.specs.Tree.{member_at};
-ghost use Rattle.ctx_process.specs.Definition.{entries_of};
+ghost use Rattle.ctx_model.specs.Definition.{entries_of};
 ghost use Rattle.ld_json.specs.View.{view};
 ghost use Rattle.ctx_process.specs.Answers.{Creates, Leaves, TriesScoped};
-ghost use Rattle.ctx_process.specs.Creation as steps;
+ghost use Rattle.ctx_model.specs.Creation as steps;
 ghost use Rattle.ctx_process.specs.View.{creation, local_view, previous_view, scoped_view, state_view, tree_view};
 
 use crate::definition::{definition_entry, protected_by};
@@ -19,7 +19,7 @@ use ld_json::{Text, Tree};
 use std::alloc::Global;
 
 /// Creates a term of which `defined` says nothing: steps 2 to 28.
-#[tactic(auto, unfolding(crate::specs::Creation::create_new))]
+#[tactic(auto, unfolding(ctx_model::specs::Creation::create_new))]
 pub(crate) fn create_new<
     C: Fn(&mut Progress, &str, &Tree) -> Result<(), ContextStop>,
     T: Fn(&ActiveContext, &Tree) -> Result<(), ContextStop>,
@@ -46,7 +46,7 @@ pub(crate) fn create_new<
 }
 
 /// Defines a term anew: steps 10 to 28.
-#[tactic(auto, unfolding(crate::specs::Creation::defined_by))]
+#[tactic(auto, unfolding(ctx_model::specs::Creation::defined_by))]
 fn define<
     C: Fn(&mut Progress, &str, &Tree) -> Result<(), ContextStop>,
     T: Fn(&ActiveContext, &Tree) -> Result<(), ContextStop>,
@@ -80,7 +80,7 @@ fn define<
 }
 
 /// A reverse property or a forward one: steps 13 to 28.
-#[tactic(auto, unfolding(crate::specs::Creation::directed))]
+#[tactic(auto, unfolding(ctx_model::specs::Creation::directed))]
 fn direct<
     C: Fn(&mut Progress, &str, &Tree) -> Result<(), ContextStop>,
     T: Fn(&ActiveContext, &Tree) -> Result<(), ContextStop>,

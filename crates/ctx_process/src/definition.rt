@@ -3,12 +3,12 @@ ghost use Rattle.std.specs.Prelude.{◌≡◌, ◌++◌, [], ◌∷◌, Some, If
 ghost use Rattle.std.specs.List.{list_all};
 ghost use Rattle.ld_model.specs.Tree as model;
 ghost use Rattle.ld_model.specs.Tree.{member_at};
-ghost use Rattle.ctx_process.specs.Words.{among};
+ghost use Rattle.ctx_model.specs.Words.{among};
 ghost use Rattle.ld_json.specs.View.{view, members_view};
 ghost use Rattle.ctx_types.specs.ContextView.{settings_view};
 ghost use Rattle.ctx_types.specs.View.{definition_view};
 ghost use Rattle.ctx_process.specs.Answers.{Answers};
-ghost use Rattle.ctx_process.specs.Definition as steps;
+ghost use Rattle.ctx_model.specs.Definition as steps;
 ghost use Rattle.ctx_process.specs.View.{mapping_view, tree_view};
 ghost use Rattle.std.specs.Option.{option_map};
 
@@ -228,7 +228,7 @@ pub(crate) fn mapped_by_prefix(
 }
 
 /// The IRI mapping of a term without a colon after its first character: steps 16 to 18.
-#[tactic(auto, unfolding(crate::specs::Definition::without_colon))]
+#[tactic(auto, unfolding(ctx_model::specs::Definition::without_colon))]
 pub(crate) fn without_colon(
     alloc: Global,
     context: &ActiveContext,

@@ -2,7 +2,7 @@
 ghost use Rattle.std.specs.Prelude.{◌≡◌, true, false};
 ghost use Rattle.ctx_types.specs.Expansion.{colon_parts};
 ghost use Rattle.ctx_process.specs.Answers.{Creates, Gives, Leaves};
-ghost use Rattle.ctx_process.specs.LocalExpansion as steps;
+ghost use Rattle.ctx_model.specs.LocalExpansion as steps;
 ghost use Rattle.ctx_process.specs.View.{creation, local_view, state_view};
 
 use crate::local::LocalContext;
@@ -13,7 +13,7 @@ use ld_json::{Text, Tree};
 use std::alloc::Global;
 
 /// What a text stands for, with the vocabulary and not relative to the document.
-#[tactic(auto, unfolding(crate::specs::LocalExpansion::expand_iri))]
+#[tactic(auto, unfolding(ctx_model::specs::LocalExpansion::expand_iri))]
 pub(crate) fn expand<C: Fn(&mut Progress, &str, &Tree) -> Result<(), ContextStop>>(
     alloc: Global,
     create: &C,
@@ -42,7 +42,7 @@ pub(crate) fn expand<C: Fn(&mut Progress, &str, &Tree) -> Result<(), ContextStop
 }
 
 /// Creates a term that the local context has and that `defined` does not have as created: step 3.
-#[tactic(auto, unfolding(crate::specs::LocalExpansion::created))]
+#[tactic(auto, unfolding(ctx_model::specs::LocalExpansion::created))]
 pub(crate) fn create_pending<C: Fn(&mut Progress, &str, &Tree) -> Result<(), ContextStop>>(
     create: &C,
     local: &LocalContext<'_>,
@@ -66,7 +66,7 @@ pub(crate) fn create_pending<C: Fn(&mut Progress, &str, &Tree) -> Result<(), Con
 }
 
 /// Creates the prefix of a text, where it has one that is pending: step 6.3.
-#[tactic(auto, unfolding(crate::specs::LocalExpansion::prefix_created))]
+#[tactic(auto, unfolding(ctx_model::specs::LocalExpansion::prefix_created))]
 fn create_prefix<C: Fn(&mut Progress, &str, &Tree) -> Result<(), ContextStop>>(
     create: &C,
     local: &LocalContext<'_>,

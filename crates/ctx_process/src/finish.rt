@@ -7,8 +7,8 @@ ghost use Rattle.ld_json.specs.View.{view};
 ghost use Rattle.ctx_types.specs.ContextView.{context_view};
 ghost use Rattle.ctx_types.specs.View.{definition_view};
 ghost use Rattle.ctx_process.specs.Answers.{Answers, Leaves, Tries, TriesScoped};
-ghost use Rattle.ctx_process.specs.Definition as steps;
-ghost use Rattle.ctx_process.specs.State as states;
+ghost use Rattle.ctx_model.specs.Definition as steps;
+ghost use Rattle.ctx_model.specs.State as states;
 ghost use Rattle.ctx_process.specs.View.{local_view, mapping_view, previous_view, scoped_view, state_view, tree_view};
 ghost use Rattle.ctx_process.specs.TagsView.{tags_view};
 
@@ -33,7 +33,7 @@ pub(crate) struct Settled {
 }
 
 /// Completes a definition and stores it, or leaves the term out.
-#[tactic(auto, unfolding(crate::specs::Definition::finished))]
+#[tactic(auto, unfolding(ctx_model::specs::Definition::finished))]
 pub(crate) fn finish<T: Fn(&ActiveContext, &Tree) -> Result<(), ContextStop>>(
     alloc: Global,
     tries: &T,
@@ -74,7 +74,7 @@ pub(crate) fn finish<T: Fn(&ActiveContext, &Tree) -> Result<(), ContextStop>>(
 }
 
 /// The definition whole: steps 19 to 26.
-#[tactic(auto, unfolding(crate::specs::Definition::completed))]
+#[tactic(auto, unfolding(ctx_model::specs::Definition::completed))]
 fn complete<T: Fn(&ActiveContext, &Tree) -> Result<(), ContextStop>>(
     alloc: Global,
     tries: &T,

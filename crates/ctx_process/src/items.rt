@@ -4,7 +4,7 @@ ghost use Rattle.ld_json.specs.View.{view};
 ghost use Rattle.ctx_types.specs.Context.{initial};
 ghost use Rattle.ctx_types.specs.ContextView.{context_view};
 ghost use Rattle.ctx_process.specs.Answers.{Answers};
-ghost use Rattle.ctx_process.specs.Process as steps;
+ghost use Rattle.ctx_model.specs.Process as steps;
 ghost use Rattle.ctx_process.specs.View.{ask_view, tree_view};
 
 use crate::local::Ask;

@@ -3,7 +3,7 @@ ghost use Rattle.std.specs.Prelude.{◌≡◌, ◌+◌, ◌++◌, [], ◌∷◌,
 ghost use Rattle.std.specs.Option.{option_map};
 ghost use Rattle.ld_model.specs.Tree.{AreAscending, member_at};
 ghost use Rattle.ld_json.specs.View.{view, members_view};
-ghost use Rattle.ctx_process.specs.Process.{merged};
+ghost use Rattle.ctx_model.specs.Process.{merged};
 ghost use Rattle.ctx_process.specs.View.{entries_view, pair_view, pairs_view, tree_view};
 ghost use Rattle.ctx_process.specs.Merge.{IsFirstOf};
 

@@ -2,8 +2,8 @@
 ghost use Rattle.std.specs.Prelude.{◌≡◌};
 ghost use Rattle.ld_json.specs.View.{view};
 ghost use Rattle.ctx_process.specs.Answers.{Creates, Gives, Leaves};
-ghost use Rattle.ctx_process.specs.Creation as steps;
-ghost use Rattle.ctx_process.specs.Definition.{entries_of};
+ghost use Rattle.ctx_model.specs.Creation as steps;
+ghost use Rattle.ctx_model.specs.Definition.{entries_of};
 ghost use Rattle.ctx_process.specs.View.{creation, local_view, mapping_view, scoped_view, state_view, tree_view};
 
 use crate::definition::{
@@ -76,7 +76,7 @@ fn kind_named<C: Fn(&mut Progress, &str, &Tree) -> Result<(), ContextStop>>(
 }
 
 /// A reverse property: step 13.
-#[tactic(auto, unfolding(crate::specs::Creation::reverse_created))]
+#[tactic(auto, unfolding(ctx_model::specs::Creation::reverse_created))]
 pub(crate) fn create_reverse<C: Fn(&mut Progress, &str, &Tree) -> Result<(), ContextStop>>(
     alloc: Global,
     create: &C,
@@ -166,7 +166,7 @@ pub(crate) fn mapping_for<C: Fn(&mut Progress, &str, &Tree) -> Result<(), Contex
     mapping_of(alloc, create, local, state, term, is_simple(value), id)
 }
 
-#[tactic(auto, unfolding(crate::specs::Creation::mapping_of))]
+#[tactic(auto, unfolding(ctx_model::specs::Creation::mapping_of))]
 fn mapping_of<C: Fn(&mut Progress, &str, &Tree) -> Result<(), ContextStop>>(
     alloc: Global,
     create: &C,
@@ -206,7 +206,7 @@ fn other_id<'a>(term: &str, id: Option<&'a Tree>) -> Option<&'a Tree>
 }
 
 /// Step 14, for an `@id` that differs from the term.
-#[tactic(auto, unfolding(crate::specs::Creation::id_mapping))]
+#[tactic(auto, unfolding(ctx_model::specs::Creation::id_mapping))]
 fn id_mapping<C: Fn(&mut Progress, &str, &Tree) -> Result<(), ContextStop>>(
     alloc: Global,
     create: &C,
@@ -274,7 +274,7 @@ fn id_named<C: Fn(&mut Progress, &str, &Tree) -> Result<(), ContextStop>>(
 }
 
 /// A term in the form of an IRI, or with a slash, has to expand to its mapping: step 14.2.4.
-#[tactic(auto, unfolding(crate::specs::Creation::agreeing))]
+#[tactic(auto, unfolding(ctx_model::specs::Creation::agreeing))]
 fn agree<C: Fn(&mut Progress, &str, &Tree) -> Result<(), ContextStop>>(
     alloc: Global,
     create: &C,
@@ -316,7 +316,7 @@ fn own_agrees<C: Fn(&mut Progress, &str, &Tree) -> Result<(), ContextStop>>(
 }
 
 /// The IRI mapping that the term itself gives: steps 15 to 18.
-#[tactic(auto, unfolding(crate::specs::Creation::term_mapping))]
+#[tactic(auto, unfolding(ctx_model::specs::Creation::term_mapping))]
 fn term_mapping<C: Fn(&mut Progress, &str, &Tree) -> Result<(), ContextStop>>(
     alloc: Global,
     create: &C,

@@ -5,8 +5,8 @@ ghost use Rattle.ctx_types.specs.Context.{Context};
 ghost use Rattle.ld_json.specs.View.{view, trees_view};
 ghost use Rattle.ctx_types.specs.ContextView.{context_view};
 ghost use Rattle.ctx_process.specs.Answers.{Answers, Leaves, Tries};
-ghost use Rattle.ctx_process.specs.Process as steps;
-ghost use Rattle.ctx_process.specs.State as states;
+ghost use Rattle.ctx_model.specs.Process as steps;
+ghost use Rattle.ctx_model.specs.State as states;
 ghost use Rattle.ctx_process.specs.View.{ask_view, creation, entries_view, imports_view, local_view, pairs_view, remote_of, scoped_of, scoped_view, state_view, text_view, tree_view};
 
 use crate::creation::create_new;
@@ -60,7 +60,7 @@ pub struct Flags {
 ///   that the store doesn't have or has as unreadable, is `loading remote context failed`.
 /// - `OutOfMemory` where memory is refused, or where more than 500 terms and contexts would be under way, each for the sake
 ///   of the one before.
-#[tactic(auto, unfolding(crate::specs::Process::process))]
+#[tactic(auto, unfolding(ctx_model::specs::Process::process))]
 pub fn process(
     alloc: Global,
     active: &ActiveContext,
@@ -88,7 +88,7 @@ pub fn process(
 
 /// Processes a local context with what is left of the limits.
 #[cycle(contexts)]
-#[tactic(auto, unfolding(crate::specs::Process::processed))]
+#[tactic(auto, unfolding(ctx_model::specs::Process::processed))]
 fn process_within(alloc: Global, ask: &Ask<'_>, local: &Tree) -> Result<ActiveContext, ContextStop>
     ensures { Answers result context_view (steps.process_within ask.now.store.now ask.now.remote_left ask.now.scoped_left (ask_view ask.now) (view local.now)) }
 {
@@ -120,7 +120,7 @@ fn take_items(
 
 /// Takes an item: null, the IRI of a remote context, or a map: step 5.
 #[cycle(contexts)]
-#[tactic(auto, unfolding(crate::specs::Process::item_taken))]
+#[tactic(auto, unfolding(ctx_model::specs::Process::item_taken))]
 fn take_item(
     alloc: Global,
     ask: &Ask<'_>,
@@ -140,7 +140,7 @@ fn take_item(
 
 /// Takes a remote context, unless it is under way already and scoped contexts are not validated: step 5.2.
 #[cycle(contexts)]
-#[tactic(auto, unfolding(crate::specs::Process::remote_taken))]
+#[tactic(auto, unfolding(ctx_model::specs::Process::remote_taken))]
 fn take_remote(
     alloc: Global,
     ask: &Ask<'_>,
@@ -191,7 +191,7 @@ fn process_remote(
 
 /// Takes a map: steps 5.5 to 5.13.
 #[cycle(contexts)]
-#[tactic(auto, unfolding(crate::specs::Process::map_taken))]
+#[tactic(auto, unfolding(ctx_model::specs::Process::map_taken))]
 fn take_map(
     alloc: Global,
     ask: &Ask<'_>,
@@ -211,7 +211,7 @@ fn take_map(
 
 /// Creates the terms of a map, in the order of their keys: steps 5.12 and 5.13.
 #[cycle(contexts)]
-#[tactic(auto, unfolding(crate::specs::Process::terms_taken))]
+#[tactic(auto, unfolding(ctx_model::specs::Process::terms_taken))]
 fn create_terms(
     alloc: Global,
     ask: &Ask<'_>,

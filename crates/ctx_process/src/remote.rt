@@ -2,7 +2,7 @@
 ghost use Rattle.std.specs.Prelude.{◌≡◌, ◌++◌, [], ◌∷◌, IfOk};
 ghost use Rattle.ld_json.specs.View.{view};
 ghost use Rattle.ctx_process.specs.Answers.{Answers};
-ghost use Rattle.ctx_process.specs.Process as steps;
+ghost use Rattle.ctx_model.specs.Process as steps;
 ghost use Rattle.ctx_process.specs.View.{imports_view, text_view, tree_view};
 
 use crate::stop::ContextStop;

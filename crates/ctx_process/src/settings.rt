@@ -4,7 +4,7 @@ ghost use Rattle.ctx_types.specs.Expansion.{expand_iri};
 ghost use Rattle.ld_json.specs.View.{view};
 ghost use Rattle.ctx_types.specs.ContextView.{context_view};
 ghost use Rattle.ctx_process.specs.Answers.{Answers};
-ghost use Rattle.ctx_process.specs.Process as steps;
+ghost use Rattle.ctx_model.specs.Process as steps;
 ghost use Rattle.ctx_process.specs.View.{entries_view, tree_view};
 
 use crate::definition::side_named;
@@ -18,7 +18,7 @@ use ld_json::{Text, Tree};
 use std::alloc::Global;
 
 /// The context with the settings of a map.
-#[tactic(auto, unfolding(crate::specs::Process::settings_taken))]
+#[tactic(auto, unfolding(ctx_model::specs::Process::settings_taken))]
 pub(crate) fn take_settings(
     alloc: Global,
     remotes: &[Text],

@@ -1,7 +1,7 @@
 // The first steps of term creation (JSON-LD 1.1 API, section 4.2.2, steps 2 to 9).
 ghost use Rattle.ld_json.specs.View.{view};
 ghost use Rattle.ctx_process.specs.Answers.{Gives};
-ghost use Rattle.ctx_process.specs.Creation as steps;
+ghost use Rattle.ctx_model.specs.Creation as steps;
 ghost use Rattle.ctx_process.specs.View.{start_view, state_view};
 
 use crate::definition::{is_definition, may_define_type};
@@ -21,7 +21,7 @@ pub(crate) enum Start {
     GoesOn(Option<Shared<TermDef>>),
 }
 
-#[tactic(auto, unfolding(crate::specs::Creation::started))]
+#[tactic(auto, unfolding(ctx_model::specs::Creation::started))]
 pub(crate) fn begin(
     alloc: Global,
     state: &mut Progress,

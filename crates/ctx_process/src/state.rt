@@ -3,7 +3,7 @@ ghost use Rattle.std.specs.Prelude.{◌≡◌, [], OnOk, Bool, true, false};
 ghost use Rattle.std.specs.Map.{lookup};
 ghost use Rattle.std.specs.BTreeMap.{is_at, insert_entry};
 ghost use Rattle.ld_model.specs.Tree.{byte_order};
-ghost use Rattle.ctx_process.specs.State.{mark, mark_of, is_undone};
+ghost use Rattle.ctx_model.specs.State.{mark, mark_of, is_undone};
 ghost use Rattle.ctx_process.specs.View.{state_view};
 
 use ctx_types::ActiveContext;

@@ -2,7 +2,7 @@
 ghost use Rattle.std.specs.Prelude.{◌≡◌, Some};
 ghost use Rattle.std.specs.List.{list_any};
 ghost use Rattle.iri_ref.specs.Parts.{colon, slash};
-ghost use Rattle.ctx_process.specs.Words as words;
+ghost use Rattle.ctx_model.specs.Words as words;
 ghost use Rattle.ctx_process.specs.View.{tree_view};
 
 use ctx_types::is_keyword;

@@ -3,7 +3,7 @@ use Rattle.std.proofs.Common.{◌≡◌, ◌++◌, drop}
 use Rattle.std.specs.Option.{option_map}
 use Rattle.ld_model.specs.Tree.{trees_of}
 use Rattle.ld_json.specs.View.{trees_view}
-use Rattle.ctx_process.specs.Definition.{all_words}
+use Rattle.ctx_model.specs.Definition.{all_words}
 use Rattle.ctx_process.proofs.container.container_of_words.Given as goal
 
 abbrev pub invariant-loop-value : goal.invariant-loop-value

@@ -2,8 +2,8 @@ use Rattle.std.proofs.Common.{◌≡◌, Ok, ap, sym, ◌∙◌}
 use Rattle.std.specs.Prelude.{codes}
 use Rattle.ld_model.specs.Tree.{member_at}
 use Rattle.ld_json.specs.View.{view}
-use Rattle.ctx_process.specs.Definition.{entries_of, protected_by}
-use Rattle.ctx_process.specs.Creation as steps
+use Rattle.ctx_model.specs.Definition.{entries_of, protected_by}
+use Rattle.ctx_model.specs.Creation as steps
 use Rattle.ctx_process.specs.View.{creation, local_view, previous_view, scoped_view, state_view}
 use Rattle.ctx_process.proofs.Steps.{leaves_of, define_step}
 use Rattle.ctx_process.proofs.creation.define.Goals as goal

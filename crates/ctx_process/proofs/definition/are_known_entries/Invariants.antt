@@ -1,7 +1,7 @@
 use Rattle.std.proofs.Common.{◌≡◌, drop}
 use Rattle.std.specs.List.{list_all}
 use Rattle.ld_json.specs.View.{members_view}
-use Rattle.ctx_process.specs.Definition.{is_known_entry}
+use Rattle.ctx_model.specs.Definition.{is_known_entry}
 use Rattle.ctx_process.proofs.definition.are_known_entries.Given as goal
 
 abbrev pub invariant-loop-entry : goal.invariant-loop-entry

@@ -1,7 +1,7 @@
 use Rattle.std.proofs.Common.{ap, sym, ◌∙◌}
 use Rattle.ld_model.specs.Tree.{member_at}
 use Rattle.ld_json.specs.View.{view}
-use Rattle.ctx_process.specs.Definition.{entries_of}
+use Rattle.ctx_model.specs.Definition.{entries_of}
 use Rattle.ctx_process.proofs.Listed.{of_object}
 use Rattle.ctx_process.proofs.definition.definition_entry.Goals as goal
 

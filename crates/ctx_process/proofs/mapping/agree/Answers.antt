@@ -1,5 +1,5 @@
 use Rattle.std.proofs.Common.{◌≡◌, true, ap, sym, ◌∙◌}
-use Rattle.ctx_process.specs.Creation as steps
+use Rattle.ctx_model.specs.Creation as steps
 use Rattle.ctx_process.specs.View.{creation, local_view, scoped_view, state_view}
 use Rattle.ctx_process.proofs.Steps.{leaves_of, agreeing_step}
 use Rattle.ctx_process.proofs.mapping.agree.Goals as goal

@@ -2,8 +2,8 @@ use Rattle.std.proofs.Common.{◌≡◌, true, false, ap, sym, ◌∙◌, arith}
 use Rattle.std.proofs.lemmas.Grind.{common_steps}
 use Rattle.ld_json.specs.View.{view}
 use Rattle.ctx_types.specs.Expansion.{has_keyword_form}
-use Rattle.ctx_process.specs.Definition.{entries_of}
-use Rattle.ctx_process.specs.Creation as steps
+use Rattle.ctx_model.specs.Definition.{entries_of}
+use Rattle.ctx_model.specs.Creation as steps
 use Rattle.ctx_process.specs.View.{creation, local_view, scoped_view, state_view}
 use Rattle.ctx_process.proofs.Steps.{leaves_of, reverse_step}
 use Rattle.ctx_process.proofs.mapping.create_reverse.Goals as goal

@@ -1,6 +1,6 @@
 use Rattle.std.proofs.Common.{◌≡◌, false, ap, sym, ◌∙◌}
 use Rattle.ld_json.specs.View.{view}
-use Rattle.ctx_process.specs.Creation as steps
+use Rattle.ctx_model.specs.Creation as steps
 use Rattle.ctx_process.specs.View.{creation, local_view, mapping_view, scoped_view, state_view}
 use Rattle.ctx_process.proofs.Steps.{gives_of, id_step}
 use Rattle.ctx_process.proofs.mapping.id_mapping.Goals as goal

@@ -1,6 +1,6 @@
 use Rattle.std.proofs.Common.{ap, sym, ◌∙◌}
 use Rattle.ld_json.specs.View.{view}
-use Rattle.ctx_process.specs.Creation as steps
+use Rattle.ctx_model.specs.Creation as steps
 use Rattle.ctx_process.specs.View.{creation, local_view, scoped_view, state_view}
 use Rattle.ctx_process.proofs.Steps.{gives_of}
 use Rattle.ctx_process.proofs.mapping.kind_valued.Goals as goal

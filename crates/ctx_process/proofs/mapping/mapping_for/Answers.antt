@@ -2,8 +2,8 @@ use Rattle.std.proofs.Common.{ap, sym, ◌∙◌}
 use Rattle.std.specs.Prelude.{codes}
 use Rattle.ld_model.specs.Tree.{member_at}
 use Rattle.ld_json.specs.View.{view}
-use Rattle.ctx_process.specs.Definition.{entries_of}
-use Rattle.ctx_process.specs.Creation as steps
+use Rattle.ctx_model.specs.Definition.{entries_of}
+use Rattle.ctx_model.specs.Creation as steps
 use Rattle.ctx_process.specs.View.{creation, local_view, mapping_view, scoped_view, state_view}
 use Rattle.ctx_process.proofs.Steps.{gives_of}
 use Rattle.ctx_process.proofs.mapping.mapping_for.Goals as goal

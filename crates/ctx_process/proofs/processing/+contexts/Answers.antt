@@ -5,10 +5,10 @@ use Rattle.ld_json.specs.View.{view, trees_view}
 use Rattle.ld_json.specs.declared.value.Tree.TheVariants.{Null}
 use Rattle.ctx_types.specs.ContextView.{context_view}
 use Rattle.ctx_process.specs.Answers.{Tries}
-use Rattle.ctx_process.specs.State.{mark_of}
-use Rattle.ctx_process.specs.Outcome.{◌>>=◌}
-use Rattle.ctx_process.specs.Words.{is_true}
-use Rattle.ctx_process.specs.Process.{process_within, with_previous, items_of, items_taken, item_taken, remote_taken, map_taken, resolved_by, scoped_ask, remote_ask, loaded}
+use Rattle.ctx_model.specs.State.{mark_of}
+use Rattle.ctx_model.specs.Outcome.{◌>>=◌}
+use Rattle.ctx_model.specs.Words.{is_true}
+use Rattle.ctx_model.specs.Process.{process_within, with_previous, items_of, items_taken, item_taken, remote_taken, map_taken, resolved_by, scoped_ask, remote_ask, loaded}
 use Rattle.ctx_process.specs.View.{ask_view, entries_view, local_view, pairs_view, remote_of, scoped_of, scoped_view, state_view, text_view}
 use Rattle.ctx_process.proofs.Listed.{of_object}
 use Rattle.ctx_process.proofs.Steps.{answers_of, leaves_of}

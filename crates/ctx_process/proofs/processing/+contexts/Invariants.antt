@@ -2,7 +2,7 @@
 use Rattle.std.proofs.Common.{◌≡◌, ◌+◌, ◌*◌, drop}
 use Rattle.ld_json.specs.View.{trees_view}
 use Rattle.ctx_types.specs.ContextView.{context_view}
-use Rattle.ctx_process.specs.Process.{items_taken, terms_created}
+use Rattle.ctx_model.specs.Process.{items_taken, terms_created}
 use Rattle.ctx_process.specs.View.{ask_view, creation, pairs_view, remote_of, scoped_of, state_view}
 use Rattle.ctx_process.proofs.processing.+contexts.Given as goal
 

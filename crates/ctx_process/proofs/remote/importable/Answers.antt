@@ -1,6 +1,6 @@
 use Rattle.std.proofs.Common.{ap, ◌∙◌}
 use Rattle.ld_json.specs.View.{view}
-use Rattle.ctx_process.specs.Process.{importable, without_import}
+use Rattle.ctx_model.specs.Process.{importable, without_import}
 use Rattle.ctx_process.proofs.Listed.{of_object}
 use Rattle.ctx_process.proofs.Steps.{answers_of}
 use Rattle.ctx_process.proofs.remote.importable.Goals as goal

@@ -1,6 +1,6 @@
 use Rattle.std.proofs.Common.{ap, sym, ◌∙◌}
 use Rattle.std.specs.Option.{option_copied}
-use Rattle.ctx_process.specs.Words.{ends_in_delimiter}
+use Rattle.ctx_model.specs.Words.{ends_in_delimiter}
 use Rattle.ctx_process.proofs.Names.{last_decides}
 use Rattle.ctx_process.proofs.words.ends_in_delimiter.Goals as goal
 

@@ -9,10 +9,10 @@ use Rattle.case_tables.specs.declared.shape.Shape.{Shape}
 use Rattle.case_tables.specs.Shape.{no_words}
 use Rattle.ctx_types.specs.Context.{Text, Definition, Context, definition_at, initial}
 use Rattle.ctx_store.specs.Stored.{Contexts}
-use Rattle.ctx_process.specs.LocalExpansion.{created, prefix_created, expand_iri}
-use Rattle.ctx_process.specs.Definition.{without_colon, completed, finished}
-use Rattle.ctx_process.specs.Creation.{started, agreeing, id_mapping, term_mapping, mapping_of, directed, defined_by, create_new}
-use Rattle.ctx_process.specs.Process.{Ask, settings_taken, remote_taken, terms_taken, map_taken, item_taken, processed, process}
+use Rattle.ctx_model.specs.LocalExpansion.{created, prefix_created, expand_iri}
+use Rattle.ctx_model.specs.Definition.{without_colon, completed, finished}
+use Rattle.ctx_model.specs.Creation.{started, agreeing, id_mapping, term_mapping, mapping_of, directed, defined_by, create_new}
+use Rattle.ctx_model.specs.Process.{Ask, settings_taken, remote_taken, terms_taken, map_taken, item_taken, processed, process}
 
 -- Maps, given their entries in ascending order.
 abbrev map : Pairs → Tree

@@ -19,9 +19,9 @@ use Rattle.ctx_types.specs.declared.definition.Side.TheVariants.{Ltr, Rtl}
 use Rattle.ctx_types.specs.Context.{Text, Definition, Settings, Context}
 use Rattle.ctx_types.specs.Expansion.{is_keyword, keywords, expand_iri}
 use Rattle.ctx_types.specs.Same.{same_but_protected}
-use Rattle.ctx_process.specs.Outcome.{◌>>=◌, unless}
-use Rattle.ctx_process.specs.Words.{among, is_iri, is_some_keyword, has_slash, has_colon_or_slash, ends_in_delimiter}
-use Rattle.ctx_process.specs.State.{State, Local, Scoped, mark, stored}
+use Rattle.ctx_model.specs.Outcome.{◌>>=◌, unless}
+use Rattle.ctx_model.specs.Words.{among, is_iri, is_some_keyword, has_slash, has_colon_or_slash, ends_in_delimiter}
+use Rattle.ctx_model.specs.State.{State, Local, Scoped, mark, stored}
 
 -- Step 4: what may be said of `@type` as a term. [Ours: the container is just the text `@set`, and the map is not empty.]
 abbrev pub is_set_word : Tree → Bool

@@ -7,11 +7,11 @@ use Rattle.case_tables.specs.declared.code.Code.{Code}
 use Rattle.case_tables.specs.declared.code.Code.TheVariants.{CyclicIriMapping, InvalidIriMapping, InvalidKeywordAlias, InvalidReverseProperty, InvalidTermDefinition, InvalidTypeMapping, KeywordRedefinition}
 use Rattle.ctx_types.specs.Context.{Text, Definition, definition_at}
 use Rattle.ctx_types.specs.Expansion.{is_keyword, has_keyword_form, colon_parts, is_whole}
-use Rattle.ctx_process.specs.Outcome.{◌>>=◌, unless}
-use Rattle.ctx_process.specs.Words.{is_iri_or_blank, is_some_keyword, same_text, has_slash, has_inner_colon}
-use Rattle.ctx_process.specs.State.{State, Local, Create, Scoped, mark_of, mark, stored, without_term}
-use Rattle.ctx_process.specs.LocalExpansion.{created, expand_iri}
-use Rattle.ctx_process.specs.Definition.{may_define_type, entries_of, is_definition, is_simple, protected_by, may_be_kind, reverse_container, can_be_prefix, Mapping, maps, leaves_out, mapped_by_prefix, without_colon, reverse_definition, finished}
+use Rattle.ctx_model.specs.Outcome.{◌>>=◌, unless}
+use Rattle.ctx_model.specs.Words.{is_iri_or_blank, is_some_keyword, same_text, has_slash, has_inner_colon}
+use Rattle.ctx_model.specs.State.{State, Local, Create, Scoped, mark_of, mark, stored, without_term}
+use Rattle.ctx_model.specs.LocalExpansion.{created, expand_iri}
+use Rattle.ctx_model.specs.Definition.{may_define_type, entries_of, is_definition, is_simple, protected_by, may_be_kind, reverse_container, can_be_prefix, Mapping, maps, leaves_out, mapped_by_prefix, without_colon, reverse_definition, finished}
 
 -- What the first steps come to: nothing more is to be done, or the term is defined anew, and had this definition.
 pub data Start : Type 0 where

@@ -14,11 +14,11 @@ use Rattle.ctx_types.specs.declared.definition.Side.{Side}
 use Rattle.ctx_types.specs.Context.{Text, Context, initial, has_protected}
 use Rattle.ctx_types.specs.Expansion.{expand_iri}
 use Rattle.ctx_store.specs.Stored.{Contexts}
-use Rattle.ctx_process.specs.Outcome.{◌>>=◌, unless}
-use Rattle.ctx_process.specs.Words.{among, is_iri_or_blank, is_absent_or_truth, is_true}
-use Rattle.ctx_process.specs.State.{State, Local, Create}
-use Rattle.ctx_process.specs.Definition.{side_named}
-use Rattle.ctx_process.specs.Creation.{create_within}
+use Rattle.ctx_model.specs.Outcome.{◌>>=◌, unless}
+use Rattle.ctx_model.specs.Words.{among, is_iri_or_blank, is_absent_or_truth, is_true}
+use Rattle.ctx_model.specs.State.{State, Local, Create}
+use Rattle.ctx_model.specs.Definition.{side_named}
+use Rattle.ctx_model.specs.Creation.{create_within}
 
 -- What context processing takes beside the local context: the active context, the base URL, the remote contexts in the
 -- chain, and the three flags.

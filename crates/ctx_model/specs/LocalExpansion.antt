@@ -5,8 +5,8 @@ use Rattle.ld_model.specs.Tree.{Pairs, member_at}
 use Rattle.case_tables.specs.declared.code.Code.{Code}
 use Rattle.ctx_types.specs.Context.{Text, definition_at}
 use Rattle.ctx_types.specs.Expansion.{is_keyword, has_keyword_form, by_definition, colon_parts, is_whole, as_iri}
-use Rattle.ctx_process.specs.Outcome.{◌>>=◌}
-use Rattle.ctx_process.specs.State.{State, Create, mark_of, is_undone}
+use Rattle.ctx_model.specs.Outcome.{◌>>=◌}
+use Rattle.ctx_model.specs.State.{State, Create, mark_of, is_undone}
 
 module _ (create : Create) (es : Pairs) where
   -- Step 3, and 6.3: where the local context has an entry for the term and `defined` does not say that it was created, it is.
