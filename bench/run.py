@@ -1,9 +1,13 @@
 #!/usr/bin/env python3
-"""Measures the program on plain documents of growing size, beside `jq -c .` on the same file, in one run.
+"""Measures the program on documents of growing size, beside `jq -c .` on the same file, in one run.
 
-Usage: run.py PROGRAM [BYTES ..], for instance run.py crates/jsonld_flat/out/jsonld_flat. Prints one table: wall time,
-processor time, peak memory, memory for each byte of input, and the ratio of the times. jq is left out where it isn't
-installed.
+Usage: run.py PROGRAM [BYTES ..]       plain documents of about so many bytes (1, 10 and 100 MB where none is given)
+       run.py PROGRAM shapes [COUNT ..]  documents of each shape of shapes.py (10,000, 30,000 and 100,000)
+       run.py PROGRAM greatest        two documents of 256 MiB, the greatest that is read: the usual one, and one of small objects
+
+PROGRAM is for instance crates/jsonld_flat/out/jsonld_flat. Prints one table: bytes, processor time, peak memory, memory for each
+byte of input, jq's processor time and peak, and the ratios of both. jq is left out where it isn't installed. A shape that is refused
+(`error: not built`) is read all the same.
 """
 import os
 import platform
@@ -14,17 +18,21 @@ import tempfile
 import time
 
 HERE = os.path.dirname(os.path.abspath(__file__))
+sys.path.insert(0, HERE)
+import shapes  # noqa: E402
+
+GREATEST = 268_435_456
 
 
-def measure(command, path):
-    """Wall seconds, processor seconds and peak bytes of a command that reads a file and succeeds."""
+def measure(command, path, statuses=(0,)):
+    """Wall seconds, processor seconds and peak bytes of a command that reads a file and ends with one of these statuses."""
     with open(path, "rb") as source, open(os.devnull, "wb") as out:
         start = time.perf_counter()
-        child = subprocess.Popen(command, stdin=source, stdout=out)
+        child = subprocess.Popen(command, stdin=source, stdout=out, stderr=out)
         _, status, usage = os.wait4(child.pid, 0)
         wall = time.perf_counter() - start
         child.returncode = os.waitstatus_to_exitcode(status)
-    if child.returncode != 0:
+    if child.returncode not in statuses:
         raise SystemExit("%s ended with %d" % (command[0], child.returncode))
     return wall, usage.ru_utime + usage.ru_stime, usage.ru_maxrss * 1024
 
@@ -40,26 +48,70 @@ def processor():
     return platform.processor() or "unknown processor"
 
 
-def main():
-    program = os.path.abspath(sys.argv[1])
-    sizes = [int(size) for size in sys.argv[2:]] or [10**6, 10**7, 10**8]
-    jq = shutil.which("jq")
+def head():
     print("%s, %d processors" % (processor(), os.cpu_count()))
-    print("%12s %9s %9s %9s %12s %9s %9s" % ("bytes", "wall s", "cpu s", "peak MB", "bytes/byte", "jq s", "of jq"))
+    print("%-24s %11s %8s %9s %8s %8s %9s %7s %7s" % ("document", "bytes", "cpu s", "peak MB", "B/byte", "jq s", "jq MB", "time", "memory"))
+
+
+def row(program, name, path, statuses=(0,)):
+    length = os.path.getsize(path)
+    _, cpu, peak = measure([program, "flatten"], path, statuses)
+    line = "%-24s %11d %8.3f %9.1f %8.1f" % (name, length, cpu, peak / 1e6, peak / length)
+    jq = shutil.which("jq")
+    if jq:
+        _, theirs, their_peak = measure([jq, "-c", "."], path)
+        line += " %8.3f %9.1f %7.2f %7.2f" % (theirs, their_peak / 1e6, cpu / theirs, peak / their_peak)
+    else:
+        line += " %8s %9s %7s %7s" % ("-", "-", "-", "-")
+    print(line, flush=True)
+
+
+def write_plain(path, size):
+    with open(path, "wb") as out:
+        subprocess.run([sys.executable, os.path.join(HERE, "plain.py"), str(size)], stdout=out, check=True)
+
+
+def plain(program, path, sizes):
+    for size in sizes:
+        write_plain(path, size)
+        row(program, "plain", path)
+
+
+def each_shape(program, path, counts):
+    for shape in shapes.SHAPES:
+        for count in counts:
+            with open(path, "w") as out:
+                # arrays a hundred deep are wide enough as they are
+                out.write(shapes.document(shape, count // 20 if shape == "deep" else count))
+            row(program, "%s %d" % (shape, count), path, (0,) if shape in shapes.PLAIN else (1,))
+
+
+def greatest(program, path):
+    write_plain(path, GREATEST - 200)
+    row(program, "plain", path)
+    small = '{"":0}'
+    with open(path, "w") as out:
+        out.write("[%s" % small)
+        for _ in range((GREATEST - 8) // (len(small) + 1) // 1000 - 1):
+            out.write((",%s" % small) * 1000)
+        out.write("]")
+    row(program, "empty_keys", path, (1,))
+
+
+def main():
+    if len(sys.argv) < 2:
+        raise SystemExit(__doc__)
+    program = os.path.abspath(sys.argv[1])
+    words = sys.argv[2:]
+    head()
     with tempfile.TemporaryDirectory() as folder:
-        for size in sizes:
-            path = os.path.join(folder, "plain.json")
-            with open(path, "wb") as out:
-                subprocess.run([sys.executable, os.path.join(HERE, "plain.py"), str(size)], stdout=out, check=True)
-            length = os.path.getsize(path)
-            wall, cpu, peak = measure([program, "flatten"], path)
-            row = "%12d %9.3f %9.3f %9.1f %12.1f" % (length, wall, cpu, peak / 1e6, peak / length)
-            if jq:
-                theirs = measure([jq, "-c", "."], path)[0]
-                row += " %9.3f %9.2f" % (theirs, wall / theirs)
-            else:
-                row += " %9s %9s" % ("-", "-")
-            print(row)
+        path = os.path.join(folder, "document.json")
+        if words[:1] == ["shapes"]:
+            each_shape(program, path, [int(word) for word in words[1:]] or [10**4, 3 * 10**4, 10**5])
+        elif words == ["greatest"]:
+            greatest(program, path)
+        else:
+            plain(program, path, [int(word) for word in words] or [10**6, 10**7, 10**8])
 
 
 if __name__ == "__main__":
