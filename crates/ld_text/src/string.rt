@@ -40,8 +40,8 @@ enum Kept {
 
 /// A text, seen by contracts as the bytes of its UTF-8.
 ///
-/// Making one takes no memory up to 22 bytes, and one allocation beyond. A copy allocates nothing. Texts are ordered
-/// and hashed as their `str` is, and may go to other threads.
+/// Making one of at most 22 bytes takes no memory, one of at most 63 one allocation, and a longer one two. A copy
+/// allocates nothing. Texts are equal, ordered and hashed as their `str` is, and may go to other threads.
 pub struct Text {
     kept: Kept,
 }
