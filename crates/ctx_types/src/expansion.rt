@@ -82,7 +82,7 @@ pub fn by_definition(
             None => Ok(if vocab { Some(None) } else { None }),
             Some(iri) => {
                 if vocab || is_keyword(iri.as_str()) {
-                    Ok(Some(Some(iri.copy(alloc)?)))
+                    Ok(Some(Some(iri.copy()?)))
                 } else {
                     Ok(None)
                 }
@@ -241,5 +241,5 @@ pub fn joined(alloc: Global, front: &str, rest: &str) -> Result<Text, AllocError
 {
     let mut string = String::from_str(alloc, front)?;
     string.push_str(rest)?;
-    Ok(Text::from_string(string))
+    Ok(Text::from_string(string)?)
 }

@@ -7,7 +7,7 @@ ghost use Rattle.iri_ref.specs.Resolve.{directory_of, is_absolute, marked, merge
 
 use crate::dots::remove_dots;
 use crate::reference::{Parts, split};
-use ld_json::Text;
+use ld_text::Text;
 use std::alloc::{AllocError, Global};
 
 /// The reference, resolved against the base (RFC 3986, section 5.2.2, strict, and 5.3).
@@ -21,7 +21,7 @@ pub fn resolve(alloc: Global, base: &str, reference: &str) -> Result<Text, Alloc
 {
     let base = split(base);
     let reference = split(reference);
-    Ok(Text::from_string(target(alloc, &base, &reference)?))
+    Ok(Text::from_string(target(alloc, &base, &reference)?)?)
 }
 
 fn target(alloc: Global, base: &Parts, reference: &Parts) -> Result<String, AllocError>

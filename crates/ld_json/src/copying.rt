@@ -15,7 +15,7 @@ impl Tree {
             Tree::Truth(truth) => Ok(Tree::Truth(*truth)),
             Tree::Whole(number) => Ok(Tree::Whole(*number)),
             Tree::OneOne => Ok(Tree::OneOne),
-            Tree::Str(text) => Ok(Tree::Str(text.copy(alloc)?)),
+            Tree::Str(text) => Ok(Tree::Str(text.copy()?)),
             Tree::Items(trees) => {
                 let mut items = Trees::with_capacity(alloc, trees.len())?;
                 for tree in trees.as_slice() {
@@ -26,7 +26,7 @@ impl Tree {
             Tree::Map(members) => {
                 let mut pairs = Members::with_capacity(alloc, members.len())?;
                 for (key, tree) in members.as_slice() {
-                    pairs.append(key.copy(alloc)?, tree.copy(alloc)?)?;
+                    pairs.append(key.copy()?, tree.copy(alloc)?)?;
                 }
                 Ok(Tree::Map(pairs))
             }

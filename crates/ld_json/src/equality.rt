@@ -3,8 +3,8 @@ ghost use Rattle.std.specs.Prelude.{◌≡◌};
 ghost use Rattle.ld_model.specs.Tree.{same_tree, same_trees, same_members, trees_of, members_of};
 ghost use Rattle.ld_json.specs.View.{view, trees_view, members_view};
 
-use crate::string::Text;
 use crate::value::Tree;
+use ld_text::Text;
 
 impl Tree {
     /// Whether two trees are equal: the same values at the same keys and places.

@@ -11,15 +11,14 @@ mod marks;
 mod numbers;
 mod pointer;
 mod reading;
-mod string;
 mod value;
 mod weighing;
 mod writing;
 
+pub use ld_text::Text;
 pub use location::{Place, Step};
 pub use pointer::pointer_of;
 pub use reading::{ReadRefusal, read_tree};
-pub use string::Text;
 pub use value::{Members, Tree, Trees};
 pub use weighing::weight;
 pub use writing::text_of;

@@ -5,7 +5,7 @@ ghost use Rattle.ld_json.specs.View.{view, trees_view, members_view};
 ghost use Rattle.ld_json.specs.Marks as marks;
 
 use crate::location::{Place, Step};
-use crate::string::Text;
+use ld_text::Text;
 use crate::value::Tree;
 use std::alloc::{AllocError, Global};
 
@@ -56,7 +56,7 @@ fn misplaced_member(alloc: Global, member: &(Text, Tree)) -> Result<Option<Place
         return Ok(None);
     }
     match misplaced(alloc, tree)? {
-        Some(place) => Ok(Some(place.under(Step::Key(key.copy(alloc)?))?)),
+        Some(place) => Ok(Some(place.under(Step::Key(key.copy()?))?)),
         None => Ok(None),
     }
 }

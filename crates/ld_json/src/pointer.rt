@@ -5,7 +5,7 @@ ghost use Rattle.std.specs.Str.{chars};
 ghost use Rattle.ld_json.specs.Pointer.{pointer, steps_text, step_text, escaped_char};
 
 use crate::location::{Place, Step};
-use crate::string::Text;
+use ld_text::Text;
 use std::alloc::{AllocError, Global};
 
 /// The JSON Pointer of a place (RFC 6901): each step is `/` and the key, with `~` as `~0` and `/` as `~1`, or the item's
@@ -18,7 +18,7 @@ pub fn pointer_of(alloc: Global, place: &Place) -> Result<Text, AllocError>
     }
     let mut out = String::new(alloc);
     push_steps(alloc, &mut out, place.as_slice())?;
-    Ok(Text::from_string(out))
+    Ok(Text::from_string(out)?)
 }
 
 fn push_steps(alloc: Global, out: &mut String, steps: &[Step]) -> Result<(), AllocError>

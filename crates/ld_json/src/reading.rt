@@ -8,7 +8,7 @@ ghost use Rattle.ld_json.specs.Read.{reading, reads, Refuses, SaysOfNumbers, num
 use crate::location::Place;
 use crate::marks::misplaced;
 use crate::numbers::refused_number;
-use crate::string::Text;
+use ld_text::Text;
 use crate::value::{Members, Tree, Trees};
 use serde_json::{Map, Number, Value};
 use std::alloc::{AllocError, Global};
@@ -84,7 +84,7 @@ fn tree(alloc: Global, value: Value) -> Result<Tree, AllocError>
         Value::Null => Ok(Tree::Null),
         Value::Bool(truth) => Ok(Tree::Truth(truth)),
         Value::Number(number) => Ok(number_of(&number)),
-        Value::String(string) => Ok(Tree::Str(Text::from_string(string))),
+        Value::String(string) => Ok(Tree::Str(Text::from_string(string)?)),
         Value::Array(values) => Ok(Tree::Items(trees(alloc, values)?)),
         Value::Object(object) => Ok(Tree::Map(members(alloc, object)?)),
     }
@@ -107,7 +107,7 @@ fn members(alloc: Global, object: Map<String, Value>) -> Result<Members, AllocEr
 {
     let mut members = Members::with_capacity(alloc, object.len())?;
     for (key, value) in object {
-        members.set(Text::from_string(key), tree(alloc, value)?)?;
+        members.set(Text::from_string(key)?, tree(alloc, value)?)?;
     }
     Ok(members)
 }

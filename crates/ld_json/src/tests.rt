@@ -256,23 +256,3 @@ fn lists_and_places_keep_what_is_pushed(rt: HostRuntime) -> Result<(), Fail> {
     assert!(rt; place.get(2).is_none());
     Ok(())
 }
-
-#[test]
-fn texts_are_compared_by_their_bytes(rt: HostRuntime) -> Result<(), Fail> {
-    for (text, other, order, blank) in [
-        ("", "", Ordering::Equal, false),
-        ("_", "", Ordering::Greater, false),
-        ("_:", "_:b0", Ordering::Less, true),
-        ("_:b0", "_:b0", Ordering::Equal, true),
-        ("a_:", "a", Ordering::Greater, false),
-        ("é", "z", Ordering::Greater, false),
-        ("\u{ffff}", "\u{10000}", Ordering::Less, false),
-    ] {
-        let text = Text::new(rt.alloc(), text)?.copy(rt.alloc())?;
-        assert_eq!(rt; text.compare(other), order, "{text}", text = text.as_str());
-        assert_eq!(rt; text.is_blank(), blank, "{text}", text = text.as_str());
-        let same = Text::from_string(text.copy(rt.alloc())?.into_string());
-        assert_eq!(rt; same.as_str(), text.as_str());
-    }
-    Ok(())
-}

@@ -8,7 +8,7 @@ ghost use Rattle.ld_model.specs.Tree as model;
 ghost use Rattle.ld_model.specs.Tree.{AreAscending, AreBefore, member_at, byte_order};
 ghost use Rattle.ld_json.specs.View.{view, trees_view, members_view};
 
-use crate::string::Text;
+use ld_text::Text;
 use std::alloc::{AllocError, Global};
 use std::cmp::Ordering;
 use std::marker::Model;

@@ -4,8 +4,8 @@ ghost use Rattle.ld_model.specs.Tree.{trees_of, members_of, trees_weight, member
 ghost use Rattle.ld_model.specs.Tree as model;
 ghost use Rattle.ld_json.specs.View.{view, trees_view, members_view};
 
-use crate::string::Text;
 use crate::value::Tree;
+use ld_text::Text;
 
 /// How many values a tree has in it, itself included and keys not counted; or 2^64 - 1 where there are more.
 #[cycle(weighing)]

@@ -4,7 +4,7 @@ ghost use Rattle.std.specs.Fmt.{sign_text};
 ghost use Rattle.std.specs.Int.{is_negative};
 ghost use Rattle.rdf_terms.specs.Double.{double_form, fraction, without_trailing_zeros};
 
-use ld_json::Text;
+use ld_text::Text;
 use std::alloc::{AllocError, Global};
 
 /// The canonical form of a whole number as an `xsd:double` (JSON-LD 1.1 API, section 8.6, data round tripping): a
@@ -20,7 +20,7 @@ pub fn double_text(alloc: Global, value: i64) -> Result<Text, AllocError>
     let fraction = fraction_of(rest);
     let exponent = rest.len();
     let text = format!(in alloc; "{sign}{first}.{fraction}E{exponent}")?;
-    Ok(Text::from_string(text))
+    Ok(Text::from_string(text)?)
 }
 
 fn sign_of(value: i64) -> &'static str

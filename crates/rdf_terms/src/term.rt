@@ -1,5 +1,5 @@
 // Terms and quads.
-use ld_json::Text;
+use ld_text::Text;
 
 /// An RDF term (RDF 1.1 Concepts, section 3).
 #[derive(Drop)]

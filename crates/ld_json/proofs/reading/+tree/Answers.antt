@@ -13,7 +13,7 @@ members-loop-key-preserved t c =
     let step : c.loop-key.key-iterator ≡ e ∷ c.next.new.self = rest_more (λ x. x) _ _ _ _ c.in-Some.is c.next.ensures.steps in
     let left : c.loop-key.members ++ map value_member c.loop-key.key-iterator ≡ map value_member c.args.object.entries = c.loop-key.invariant in
     set-next c.loop-key.members c.set.new.self e c.next.new.self c.args.object.entries (view c.in_ok-tree.field-0) c.into_iter-key-iterator.ensures.into_iter_gives.5
-    (rw step at left) c.in_ok-tree.ensures (rw c.from_string.ensures at c.in_ok-set.ensures.ok)
+    (rw step at left) c.in_ok-tree.ensures (rw c.in_ok-from_string.ensures at c.in_ok-set.ensures.ok)
 
 pub tree-returns-in_ok-trees-in-Array : goal.tree-returns-in_ok-trees-in-Array
 tree-returns-in_ok-trees-in-Array t c =
