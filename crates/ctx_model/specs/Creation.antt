@@ -24,7 +24,8 @@ removed t v s = do
   _ ← unless (is_definition v) InvalidTermDefinition
   Ok (goes_on (definition_at t s.context.current.terms), without_term t s)
 
--- Steps 4 and 5: keywords are not defined, but for `@type`, and a term in the form of a keyword is left out.
+-- Steps 4 and 5: keywords are not defined, but for `@type`, and a term in the form of a keyword is left out. [Ours: `defined`
+-- becomes true for it, so that a later use of it is no cycle. The keywords of framing are no keywords here: they have the form.]
 abbrev pub allowed : Text → Tree → State → Result (Start × State) Code
 allowed t v s =
     if bytes_eq t (codes "@type") then (if may_define_type v then removed t v s else Err KeywordRedefinition)
@@ -36,15 +37,15 @@ allowed t v s =
 unfoldable pub started : Text → Tree → State → Result (Start × State) Code
 started t v s = if bytes_eq t [] then Err InvalidTermDefinition else allowed t v (mark t false s)
 
+-- Step 13.1: no entry that may not be there stands beside `@reverse`.
+abbrev pub is_reverse_alone : Pairs → Bool
+is_reverse_alone es = is_none (member_at (codes "@id") es) && is_none (member_at (codes "@nest") es)
+
 -- Step 14: the `@id` that differs from the term.
 abbrev pub other_id : Text → Option Tree → Option Tree
 other_id t None = None
 other_id t (Some (text v)) = if bytes_eq v t then None else Some (text v)
 other_id t (Some v) = Some v
-
--- Step 13.1: an entry beside `@reverse` that may not be there.
-abbrev pub is_reverse_alone : Pairs → Bool
-is_reverse_alone es = is_none (member_at (codes "@id") es) && is_none (member_at (codes "@nest") es)
 
 -- Step 14.2.2: an `@id` in the form of a keyword that is none.
 abbrev pub is_reserved : Text → Bool
@@ -74,7 +75,7 @@ module _ (create : Create) (scoped : Scoped) (l : Local) where
   kind_of None s = Ok (None, s)
   kind_of (Some v) s = kind_valued v s
 
-  -- Steps 13.4 to 13.6: a reverse property that is not in the form of a keyword.
+  -- Steps 13.4 to 13.7: a reverse property that is not in the form of a keyword.
   abbrev pub reverse_named : Text → Text → Pairs → Bool → Option Text → State → Result State Code
   reverse_named t v es protected kind s = do
     (iri, s₁) ← expanded v s
@@ -82,7 +83,7 @@ module _ (create : Create) (scoped : Scoped) (l : Local) where
     container ← reverse_container (member_at (codes "@container") es)
     Ok (stored t (reverse_definition protected kind iri container) s₁)
 
-  -- Steps 13.2 and 13.3.
+  -- Steps 13.2 and 13.3. [Ours: `defined` becomes true where the term is left out, so that a later use of it is no cycle.]
   abbrev pub reverse_valued : Text → Tree → Pairs → Bool → Option Text → State → Result State Code
   reverse_valued t (text v) es protected kind s =
       elim (has_keyword_form v) [ true ↦ Ok (mark t true s) | false ↦ reverse_named t v es protected kind s ]
@@ -120,7 +121,8 @@ module _ (create : Create) (scoped : Scoped) (l : Local) where
       elim (is_reserved v) [ true ↦ Ok (leaves_out, s) | false ↦ id_named t simple v s ]
   id_mapping t simple _ s = Err InvalidIriMapping
 
-  -- Step 15: the term is a compact IRI, a blank node identifier or an IRI.
+  -- Step 15: the term is a compact IRI, a blank node identifier or an IRI. [Ours: it is split at its first colon, and taken whole
+  -- behind `_` and before `//`, as IRI expansion does it: the standard doesn't say here what a compact IRI is.]
   abbrev pub colon_mapping : Text → Text × Text → State → Result (Mapping × State) Code
   colon_mapping t p s =
       elim (is_whole p) [

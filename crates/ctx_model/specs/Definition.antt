@@ -82,12 +82,30 @@ reverse_container (Some null) = Ok no_words
 reverse_container (Some (text c)) = reverse_word c
 reverse_container (Some _) = Err InvalidReverseProperty
 
+-- Steps 13.6 and 13.7: the definition of a reverse property, with the settings made so far.
+abbrev pub reverse_definition : Bool → Option Text → Option Text → Shape → Definition
+reverse_definition protected kind mapping container =
+    record {
+      mapping = mapping;
+      prefix = false;
+      protected = protected;
+      reverse = true;
+      base = None;
+      local = None;
+      container = container;
+      side = Absent;
+      index = None;
+      language = Absent;
+      nest = None;
+      kind = kind;
+    }
+
 -- Step 14.2.5: the term may stand before the colon of a compact IRI.
 abbrev pub can_be_prefix : Bool → Text → Option Text → Bool
 can_be_prefix simple t None = false
 can_be_prefix simple t (Some iri) = simple && not (has_colon_or_slash t) && (is_blank iri || ends_in_delimiter iri)
 
--- An IRI mapping and the prefix flag; or the term is left without a definition.
+-- An IRI mapping and the prefix flag; or the term is left without a definition, step 14.2.2.
 pub data Mapping : Type 0 where
   maps : Option Text → Bool → Mapping
   leaves_out : Mapping
@@ -136,6 +154,7 @@ abbrev pub words_of : Tree → Option (List Keyword)
 words_of (array vs) = all_words vs
 words_of v = option_map (λ k. k ∷ []) (word_of v)
 
+-- [Ours: a keyword stands in the array at most once, since the standard speaks of combinations of keywords.]
 abbrev pub container_of : Tree → Option Shape
 container_of v = option_and_then shape_of (words_of v)
 
@@ -162,6 +181,11 @@ index_of c s (Some (text v)) = do
   _ ← unless (s.index && is_iri (expand_iri c false true v)) InvalidTermDefinition
   Ok (Some v)
 index_of c s (Some _) = Err InvalidTermDefinition
+
+-- Step 21: a scoped context is refused as one, whatever its own error is.
+abbrev pub scoped_tried : {A : Type 0} → Result A Code → Result (Unit {0}) Code
+scoped_tried (Ok a) = Ok tt
+scoped_tried (Err e) = Err InvalidScopedContext
 
 -- Step 22: the language mapping, where there is no `@type`.
 abbrev pub language_of : Bool → Option Tree → Result (Slot Text) Code
@@ -238,11 +262,6 @@ kept overrides (Some p) d =
     else if same_but_protected p d then Ok p
     else Err ProtectedTermRedefinition
 
--- Step 21: a scoped context is refused as one, whatever its own error is.
-abbrev pub scoped_tried : {A : Type 0} → Result A Code → Result (Unit {0}) Code
-scoped_tried (Ok a) = Ok tt
-scoped_tried (Err e) = Err InvalidScopedContext
-
 module _ (scoped : Scoped) (l : Local) where
   -- Step 21: the scoped context is tried.
   abbrev pub context_tried : Context → Option Tree → Result (Unit {0}) Code
@@ -283,28 +302,10 @@ module _ (scoped : Scoped) (l : Local) where
     tags ← tags_of es
     described t es protected mapping flag contents index tags
 
-  -- Steps 19 to 28.
+  -- Steps 19 to 28. [Ours: where the term is left out, `defined` becomes true, so that a later use of it is no cycle.]
   unfoldable pub finished : Text → Pairs → Bool → Option Text → Option Definition → Mapping → State → Result State Code
   finished t es protected kind previous leaves_out s = Ok (mark t true s)
   finished t es protected kind previous (maps mapping flag) s = do
     d ← completed t es protected kind mapping flag s.context
     e ← kept l.overrides previous d
     Ok (stored t e s)
-
--- Step 13.6: a reverse property, with the settings made so far.
-abbrev pub reverse_definition : Bool → Option Text → Option Text → Shape → Definition
-reverse_definition protected kind mapping container =
-    record {
-      mapping = mapping;
-      prefix = false;
-      protected = protected;
-      reverse = true;
-      base = None;
-      local = None;
-      container = container;
-      side = Absent;
-      index = None;
-      language = Absent;
-      nest = None;
-      kind = kind;
-    }

@@ -9,7 +9,9 @@ use Rattle.ctx_model.specs.Outcome.{◌>>=◌}
 use Rattle.ctx_model.specs.State.{State, Create, mark_of, is_undone}
 
 module _ (create : Create) (es : Pairs) where
-  -- Step 3, and 6.3: where the local context has an entry for the term and `defined` does not say that it was created, it is.
+  -- Steps 3 and 6.3: where the local context has an entry for the term and `defined` does not say that it was created, it is.
+  -- [Ours: so too in term creation, step 15.1, and with the base URL, the protection and the override of the creation under way,
+  -- since the standard passes none of the three.]
   unfoldable pub created : Text → State → Result State Code
   created t s =
       elim (member_at t es) [

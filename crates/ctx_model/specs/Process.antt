@@ -38,7 +38,8 @@ Process = Ask → Tree → Result Context Code
 abbrev pub Remote : Type 0
 Remote = Ask → Result Tree Code → Result Context Code
 
--- Step 2: a truth value at `@propagate` in the local context itself.
+-- Step 2: a truth value at `@propagate` in the local context itself. [Ours: that of an import is not looked at here, since an
+-- import is merged in a later step; there its type is tested.]
 abbrev pub propagates_by : Bool → Option Tree → Bool
 propagates_by p (Some (truth b)) = b
 propagates_by p _ = p
@@ -89,7 +90,13 @@ loaded store iri = do
   file ← dereferenced store iri
   context_entry file
 
--- Step 5.6.3 and on: `@import`. Its context is a map, and has no `@import` of its own.
+-- Step 5.5: `@version` is absent or 1.1. [Ours: that of an import is not looked at, since an import is merged in a later step.]
+abbrev pub is_known_version : Option Tree → Bool
+is_known_version None = true
+is_known_version (Some one_one) = true
+is_known_version (Some _) = false
+
+-- Steps 5.6.2 to 5.6.7: `@import`. Its context is a map, and has no `@import` of its own.
 abbrev pub without_import : Pairs → Result Pairs Code
 without_import es = do
   _ ← unless (is_none (member_at (codes "@import") es)) InvalidContextEntry
@@ -106,7 +113,7 @@ imported store base (Some (text t)) = do
   importable context
 imported store base (Some _) = Err InvalidImportValue
 
--- Step 5.6.9: the imported map with the item's own entries in place of equal keys. Both are in ascending order.
+-- Step 5.6.8: the imported map with the item's own entries in place of equal keys. Both are in ascending order.
 abbrev pub merged : Pairs → Pairs → Pairs
 merged [] imports = imports
 merged (e ∷ es) imports = placed (λ is. merged es is) imports
@@ -115,12 +122,6 @@ merged (e ∷ es) imports = placed (λ is. merged es is) imports
     placed rest [] = e ∷ rest []
     placed rest (i ∷ is) =
         elim (byte_order e.0 i.0) [ Less ↦ e ∷ rest (i ∷ is) | Equal ↦ e ∷ rest is | Greater ↦ i ∷ placed rest is ]
-
--- Step 5.5: `@version` is absent or 1.1.
-abbrev pub is_known_version : Option Tree → Bool
-is_known_version None = true
-is_known_version (Some one_one) = true
-is_known_version (Some _) = false
 
 abbrev pub with_base : Option Text → Context → Context
 with_base b c = record c { current = record c.current { base = b } }
@@ -196,13 +197,15 @@ is_term_key k =
 abbrev pub entry_created : Create → Text × Tree → State → Result State Code
 entry_created create e s = if is_term_key e.0 then create e.0 e.1 s else Ok s
 
+-- [Ours: entries are taken in the order of their keys' bytes. The standard names no order, and the first error depends on it.]
 abbrev pub terms_created : Create → Pairs → State → Result State Code
 terms_created create [] s = Ok s
 terms_created create (e ∷ es) s = do
   s₁ ← entry_created create e s
   terms_created create es s₁
 
--- [Ours: a value at `@protected` that is no truth value counts as false.]
+-- Step 5.13: what is handed to term creation. [Ours: a value at `@protected` that is no truth value counts as false, since the
+-- standard tests it in a term alone.]
 abbrev pub local_of : Ask → Pairs → Local
 local_of ask es = record { entries = es; base = ask.base; protected = is_true (member_at (codes "@protected") es); overrides = ask.overrides }
 
@@ -219,7 +222,7 @@ module _ (store : Contexts) where
   remote_taken remote ask iri c =
       elim (not ask.validates && among iri ask.remotes) [ true ↦ Ok c | false ↦ remote (remote_ask ask iri c) (loaded store iri) ]
 
-  -- Steps 5.12 and 5.13: terms are created in the order of their keys.
+  -- Steps 5.12 and 5.13: the terms are created.
   unfoldable pub terms_taken : Process → Ask → Pairs → Context → Result Context Code
   terms_taken scoped ask es c = do
     s ← terms_created (λ t v s. create_within (λ c v. scoped (scoped_ask ask c) v) (local_of ask es) (length es) t v s) es (record { context = c; defined = [] })
@@ -246,7 +249,7 @@ module _ (store : Contexts) where
     c₁ ← item_taken remote scoped propagates ask t c
     items_taken remote scoped propagates ask ts c₁
 
-  -- Context processing, given how remote and scoped contexts are processed.
+  -- Steps 1 to 6: context processing, given how remote and scoped contexts are processed.
   unfoldable pub processed : Remote → Process → Process
   processed remote scoped ask local =
       items_taken remote scoped (propagates_in ask.propagates local) ask (items_of local) (with_previous (propagates_in ask.propagates local) ask.active)

@@ -1,6 +1,6 @@
 -- The terms that a tree stands for: those of the left side, the entry of the node, and those of the right side.
 use Rattle.std.specs.Prelude.{◌≡◌, [], ◌∷◌, ◌++◌, length, Option, None, Some}
-use Rattle.ctx_types.specs.Context.{Text, Definition, Terms}
+use Rattle.ctx_types.specs.Context.{Text, Definition, Terms, has_protected}
 use Rattle.ctx_types.specs.View.{definition_view}
 use Rattle.ctx_types.specs.declared.branch.Entry.{Entry}
 use Rattle.ctx_types.specs.declared.branch.Node.{Node}
@@ -16,10 +16,10 @@ abbrev pub top_view : {A : Type 0} → (A → Node) → Option A → Terms
 top_view f None = []
 top_view f (Some a) = node_view (f a)
 
--- The node has the number of its terms.
-abbrev pub IsCounted : {A : Type 0} → (A → Node) → Option A → Type 0
-IsCounted f None = Unit {0}
-IsCounted f (Some a) = (f a).size ≡ length (node_view (f a))
+-- The node has the number of its terms, and whether one of them is protected.
+abbrev pub KnowsItsTerms : {A : Type 0} → (A → Node) → Option A → Type 0
+KnowsItsTerms f None = Unit {0}
+KnowsItsTerms f (Some a) = ((f a).size ≡ length (node_view (f a))) × ((f a).guarded ≡ has_protected (node_view (f a)))
 
 -- A first entry, and the terms behind it; None is no term.
 abbrev pub front_view : Option (Entry × Terms) → Terms

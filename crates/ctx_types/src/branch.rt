@@ -68,6 +68,8 @@ struct Node {
     right: Branch,
     // How many entries there are, with those of both sides.
     size: usize,
+    // Whether one of their definitions is protected.
+    guarded: bool,
 }
 
 impl Model for Branch {
@@ -81,11 +83,11 @@ impl Model for Branch {
 
     ghost coded = { terms_code };
 
-    ghost use Rattle.ctx_types.specs.BranchView.{top_view, IsCounted};
+    ghost use Rattle.ctx_types.specs.BranchView.{top_view, KnowsItsTerms};
 
     ghost view = { λ b. top_view arc_value b.top };
 
-    ghost invariant = { λ b. IsCounted arc_value b.top };
+    ghost invariant = { λ b. KnowsItsTerms arc_value b.top };
 
     ghost size = { length };
 
@@ -157,17 +159,13 @@ impl Branch {
         }
     }
 
-    /// Whether a definition is protected.
+    /// Whether a definition is protected, in constant time.
     pub(crate) fn has_protected(&self) -> bool
         ensures { result ≡ has_protected self.now }
     {
         match &self.top {
             None => false,
-            Some(node) => {
-                node.left.has_protected()
-                    || node.entry.value.get().protected
-                    || node.right.has_protected()
-            }
+            Some(node) => node.guarded,
         }
     }
 
@@ -272,10 +270,18 @@ fn glued(alloc: Global, left: &Branch, right: &Branch) -> Result<Branch, AllocEr
     }
 }
 
+// Whether a definition of a node over two sides is protected.
+fn is_guarded(left: &Branch, entry: &Entry, right: &Branch) -> bool
+    ensures { result ≡ has_protected (left.now ++ entry_view entry.now ∷ right.now) }
+{
+    left.has_protected() || entry.value.get().protected || right.has_protected()
+}
+
 // A node over two sides. No memory holds more entries than can be counted.
 fn joined(alloc: Global, left: Branch, entry: Entry, right: Branch) -> Result<Branch, AllocError>
     ensures { IfOk result (λ b. b ≡ left ++ entry_view entry ∷ right) }
 {
+    let guarded = is_guarded(&left, &entry, &right);
     match left.len().checked_add(right.len()) {
         None => Err(AllocError),
         Some(both) => match both.checked_add(1) {
@@ -286,6 +292,7 @@ fn joined(alloc: Global, left: Branch, entry: Entry, right: Branch) -> Result<Br
                     entry,
                     right,
                     size,
+                    guarded,
                 };
                 Ok(Branch {
                     top: Some(Arc::new(alloc, node)?),

@@ -101,7 +101,7 @@ impl Terms {
         Ok(())
     }
 
-    /// Whether a definition is protected. It takes a time that grows with the number of terms.
+    /// Whether a definition is protected, in constant time.
     pub fn has_protected(&self) -> bool
         ensures { result ≡ has_protected self.now }
     {
