@@ -73,7 +73,7 @@ pub(crate) fn nodes_of(alloc: Global, graph: Graph) -> Result<Members, AllocErro
     let mut nodes = Members::new(alloc);
     for (id, node) in graph {
         let once = without_repeats(alloc, node)?;
-        nodes.set(Text::from_string(id), Tree::Map(once))?;
+        nodes.set(Text::from_string(id)?, Tree::Map(once))?;
     }
     Ok(nodes)
 }

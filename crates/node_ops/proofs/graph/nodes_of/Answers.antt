@@ -15,4 +15,4 @@ loop-id-preserved c =
     let node : object (members_of c.in_ok-once.once) ≡ node_once (as_node e.1) = ap (λ (ms : Pairs). object (members_of ms)) c.in_ok-once.ensures ∙ sym (node_once-object e.1) in
     put_behind c.loop-id.nodes c.set.new.self (string_bytes e.0, node_once (as_node e.1)) (nodes_once (nodes_view c.next.new.self)) (nodes_once (nodes_view c.args.graph.entries))
     (ascending-each node_once (nodes_view c.args.graph.entries) (ascending_nodes c.args.graph.entries c.into_iter-id-iterator.ensures.into_iter_gives.5))
-    (rw step at left) (rw (c.from_string.ensures, node) at c.in_ok-set.ensures.ok)
+    (rw step at left) (rw (c.in_ok-from_string.ensures, node) at c.in_ok-set.ensures.ok)
