@@ -116,8 +116,8 @@ impl ActiveContext {
         ensures { IfOk result (λ c. context_view c ≡ initial (option_map (λ t. t.now) base.entry)) }
     {
         Ok(ActiveContext {
-            base: lent_copy(alloc, base)?,
-            original: lent_copy(alloc, base)?,
+            base: lent_copy(base)?,
+            original: lent_copy(base)?,
             vocab: None,
             language: None,
             side: None,
@@ -131,10 +131,10 @@ impl ActiveContext {
         ensures { IfOk result (λ c. context_view c ≡ context_view self.now) }
     {
         Ok(ActiveContext {
-            base: own_copy(alloc, &self.base)?,
-            original: own_copy(alloc, &self.original)?,
-            vocab: own_copy(alloc, &self.vocab)?,
-            language: own_copy(alloc, &self.language)?,
+            base: own_copy(&self.base)?,
+            original: own_copy(&self.original)?,
+            vocab: own_copy(&self.vocab)?,
+            language: own_copy(&self.language)?,
             side: self.side,
             terms: self.terms.copy()?,
             previous: share_previous(&self.previous)?,
@@ -142,21 +142,21 @@ impl ActiveContext {
     }
 }
 
-fn lent_copy(alloc: Global, text: Option<&Text>) -> Result<Option<Text>, AllocError>
+fn lent_copy(text: Option<&Text>) -> Result<Option<Text>, AllocError>
     ensures { IfOk result (λ t. t ≡ option_map (λ s. s.now) text.entry) }
 {
     match text {
         None => Ok(None),
-        Some(text) => Ok(Some(text.copy(alloc)?)),
+        Some(text) => Ok(Some(text.copy()?)),
     }
 }
 
-fn own_copy(alloc: Global, text: &Option<Text>) -> Result<Option<Text>, AllocError>
+fn own_copy(text: &Option<Text>) -> Result<Option<Text>, AllocError>
     ensures { IfOk result (λ t. t ≡ text.now) }
 {
     match text {
         None => Ok(None),
-        Some(text) => Ok(Some(text.copy(alloc)?)),
+        Some(text) => Ok(Some(text.copy()?)),
     }
 }
 

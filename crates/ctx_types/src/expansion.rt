@@ -37,7 +37,7 @@ pub fn expand_iri(
     if has_keyword_form(text) {
         return Ok(None);
     }
-    match by_definition(alloc, vocab, context.terms.get(text))? {
+    match by_definition(vocab, context.terms.get(text))? {
         Some(mapping) => Ok(mapping),
         None => Ok(Some(as_iri(alloc, context, text, doc_relative, vocab)?)),
     }
@@ -70,7 +70,6 @@ fn has_letters_alone(bytes: &[u8]) -> bool
 /// What a text stands for where it is a term with this definition: steps 4 and 5 of IRI expansion. None where the term does
 /// not stand for it, and Some(None) where it stands for null.
 pub fn by_definition(
-    alloc: Global,
     vocab: bool,
     definition: Option<&TermDef>,
 ) -> Result<Option<Option<Text>>, AllocError>
