@@ -4,6 +4,7 @@
 //! bytes, [`Trees`] as a list of trees, and [`Members`] as a list of pairs of key and tree whose keys strictly ascend.
 #![tactic(auto)]
 
+mod building;
 mod copying;
 mod equality;
 mod location;
@@ -13,6 +14,7 @@ mod pointer;
 mod reading;
 mod string;
 mod value;
+mod walking;
 mod weighing;
 mod writing;
 
@@ -21,6 +23,7 @@ pub use pointer::pointer_of;
 pub use reading::{ReadRefusal, read_tree};
 pub use string::Text;
 pub use value::{Members, Tree, Trees};
+pub use walking::{Entries, IntoEntries, IntoValues, Values};
 pub use weighing::weight;
 pub use writing::text_of;
 
