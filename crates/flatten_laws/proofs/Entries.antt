@@ -3,7 +3,7 @@ use Rattle.std.proofs.Common.{◌≡◌, ℕ, List, Bool, true, false, cond, ◌
 use Rattle.std.specs.Str.{bytes_eq}
 use Rattle.ld_model.specs.Tree.{Tree, object, Pairs, members_of, member_list-members_of, member_at, put, tree_list-trees_of}
 use Rattle.ld_model.specs.NodeMap.{new_node, node_or_new, node_at, with_node_by, with_node, entries_of, with_entries, changed}
-use Rattle.flatten_laws.proofs.Puts.{bytes_eq-exact, bytes_eq-sym, member_at-put, member_at-put_other}
+use Rattle.ld_model.proofs.Puts.{bytes_eq-exact, bytes_eq-sym, member_at-put, member_at-put_other}
 
 abbrev pub entries_at : List ℕ → List ℕ → Pairs → List Tree
 entries_at id property nodes = entries_of (member_at property (node_at id nodes))

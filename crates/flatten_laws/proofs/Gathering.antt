@@ -9,8 +9,8 @@ use Rattle.ld_model.specs.Label.{Labels}
 use Rattle.ld_model.specs.Plain.{is_iri_text, is_plain_entry, are_plain_entries, is_plain_array, is_plain_member, are_plain_members, is_plain_item, are_plain_items}
 use Rattle.ld_model.specs.NodeMap.{State, named, with_node, entries_of, added, changed, reference, reference_into, entry_by, entry_into, entries_into, named_property_into, property_into, properties_into, name_of, named_item_into, item_into, items_into}
 use Rattle.flatten_laws.specs.Statements.{entries_in, has_id, is_same, text_of, member_states, object_states, statements}
-use Rattle.flatten_laws.proofs.Puts.{bytes_eq-exact}
-use Rattle.flatten_laws.proofs.SameTree.{both}
+use Rattle.ld_model.proofs.Puts.{bytes_eq-exact}
+use Rattle.ld_model.proofs.Truths.{both}
 use Rattle.flatten_laws.proofs.Once.{gathered, gathered-append}
 use Rattle.flatten_laws.proofs.Entries.{entries_at, entries_at-changed, node_at-with_node}
 use Rattle.flatten_laws.proofs.PlainNames.{named_iri, iri_member, plain_id}

@@ -8,7 +8,7 @@ use Rattle.ld_model.specs.Keys.{id_key}
 use Rattle.ld_model.specs.Label.{Labels, is_blank, issue}
 use Rattle.ld_model.specs.NodeMap.{State, named, new_node, node_or_new, node_at, with_node_by, with_node, entries_of, added, with_entries, changed, target, entry_by, entries_into, property_into, properties_into, item_into, items_into}
 use Rattle.flatten_laws.specs.Statements.{members_in}
-use Rattle.flatten_laws.proofs.Puts.{bytes_eq-exact, bytes_eq-sym, at_first, at_later, member_at-put_other, all-put, ascending_nil, ascending_cons, ascending-put}
+use Rattle.ld_model.proofs.Puts.{bytes_eq-exact, bytes_eq-sym, at_first, at_later, member_at-put_other, all-put, ascending_nil, ascending_cons, ascending-put}
 
 -- Members of a node with this id.
 pub record IsNodeOf (id : List ℕ) (ms : Pairs) : Type 0 where

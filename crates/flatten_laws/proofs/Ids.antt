@@ -9,7 +9,7 @@ use Rattle.ld_model.specs.NodeMap.{items_into}
 use Rattle.ld_model.specs.Flatten.{has_more, nodes_of}
 use Rattle.flatten_laws.specs.Statements.{id_of, text_of}
 use Rattle.flatten_laws.specs.Laws.{flattened, AscendById, NodesAscendById}
-use Rattle.flatten_laws.proofs.Puts.{ascending_nil, ascending_cons, ascending_head, ascending_tail}
+use Rattle.ld_model.proofs.Puts.{ascending_nil, ascending_cons, ascending_head, ascending_tail}
 use Rattle.flatten_laws.proofs.Graph.{IsNode, IsGraph, items_is_graph, empty_is_graph}
 
 -- The nodes that generation gives.

@@ -6,7 +6,7 @@ use Rattle.ld_model.specs.Keys.{id_key}
 use Rattle.ld_model.specs.Label.{Labels}
 use Rattle.ld_model.specs.Plain.{is_plain_entry, are_plain_entries, is_plain_member, are_plain_members, is_plain_item, are_plain_items}
 use Rattle.ld_model.specs.NodeMap.{State, named, entries_of, entry_by, entry_into, entries_into, property_into, properties_into, name_of, item_into, items_into}
-use Rattle.flatten_laws.proofs.SameTree.{both}
+use Rattle.ld_model.proofs.Truths.{both}
 use Rattle.flatten_laws.proofs.PlainNames.{named_iri, plain_id}
 use Rattle.flatten_laws.proofs.Gathering.{scheme_of, property_parts, plain_entries}
 

@@ -6,7 +6,7 @@ use Rattle.std.proofs.lemmas.List.Folds.{list_any-append}
 use Rattle.ld_model.specs.Tree.{Tree, same_tree}
 use Rattle.ld_model.specs.NodeMap.{added}
 use Rattle.flatten_laws.specs.Statements.{once}
-use Rattle.flatten_laws.proofs.SameTree.{same_tree-exact, same_tree-sym}
+use Rattle.ld_model.proofs.SameTree.{same_tree-exact, same_tree-sym}
 
 abbrev pub gathered : List Tree → List Tree → List Tree
 gathered held [] = held

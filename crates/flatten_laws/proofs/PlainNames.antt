@@ -7,8 +7,8 @@ use Rattle.ld_model.specs.Iri.{has_scheme}
 use Rattle.ld_model.specs.Label.{Labels, is_blank, issue}
 use Rattle.ld_model.specs.Plain.{is_iri_text, is_plain_array, is_plain_member, are_plain_members}
 use Rattle.ld_model.specs.NodeMap.{named}
-use Rattle.flatten_laws.proofs.Puts.{bytes_eq-sym, at_first, at_later}
-use Rattle.flatten_laws.proofs.SameTree.{both}
+use Rattle.ld_model.proofs.Puts.{bytes_eq-sym, at_first, at_later}
+use Rattle.ld_model.proofs.Truths.{both}
 
 first_byte : (a b : ℕ) (s : List ℕ) (t : Bool) → (a == 95) ≡ t → has_scheme (a ∷ b ∷ s) ≡ true → (t && (b == 58)) ≡ false
 first_byte a b s true is scheme = let never : has_scheme (95 ∷ b ∷ s) ≡ true = subst (λ x. has_scheme (x ∷ b ∷ s) ≡ true) (eqb-true a 95 is) scheme in absurd (cc)

@@ -12,8 +12,8 @@ use Rattle.ld_model.specs.Plain.{is_iri_text, is_plain_entry, are_plain_entries,
 use Rattle.ld_model.specs.NodeMap.{State, new_node, node_or_new, node_at, with_node_by, with_node, entries_of, added, with_entries, changed, reference, reference_into, entry_by, entry_into, entries_into, named_property_into, property_into, properties_into, name_of, named_item_into, item_into, items_into}
 use Rattle.ld_model.specs.Flatten.{has_more, nodes_of}
 use Rattle.flatten_laws.specs.Statements.{members_in}
-use Rattle.flatten_laws.proofs.Puts.{bytes_eq-exact, at_first, at_later, all-put}
-use Rattle.flatten_laws.proofs.SameTree.{both}
+use Rattle.ld_model.proofs.Puts.{bytes_eq-exact, at_first, at_later, all-put}
+use Rattle.ld_model.proofs.Truths.{both}
 use Rattle.flatten_laws.proofs.PlainNames.{named_iri, plain_id}
 use Rattle.flatten_laws.proofs.Gathering.{scheme_of, property_parts, plain_entries}
 use Rattle.flatten_laws.proofs.Graph.{IsNode}

@@ -12,8 +12,8 @@ use Rattle.ld_model.specs.Iri.{has_scheme}
 use Rattle.ld_model.specs.NodeMap.{State, named, node_or_new, node_at, with_node, entries_of, with_entries, added, changed, target, reference, entry_by, entry_into, entries_into, named_property_into, property_into, properties_into, name_of, named_item_into, item_into, items_into}
 use Rattle.ld_model.specs.Flatten.{has_more, nodes_of}
 use Rattle.flatten_laws.specs.Statements.{has_id, is_same, text_of, has_member, gives}
-use Rattle.flatten_laws.proofs.Puts.{bytes_eq-exact, bytes_eq-sym, apart_before, at_first, at_later, member_at-put, member_at-put_other, ascending_head, ascending_tail}
-use Rattle.flatten_laws.proofs.SameTree.{both}
+use Rattle.ld_model.proofs.Puts.{bytes_eq-exact, bytes_eq-sym, apart_before, at_first, at_later, member_at-put, member_at-put_other, ascending_head, ascending_tail}
+use Rattle.ld_model.proofs.Truths.{both}
 use Rattle.flatten_laws.proofs.Entries.{node_at-changed, node_at-changed_other, node_at-with_node}
 use Rattle.flatten_laws.proofs.PlainNames.{named_iri, plain_id}
 use Rattle.flatten_laws.proofs.Gathering.{property_parts}

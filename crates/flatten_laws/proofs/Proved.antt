@@ -11,7 +11,7 @@ use Rattle.ld_model.specs.Plain.{are_plain_items}
 use Rattle.ld_model.specs.Flatten.{has_more, nodes_of}
 use Rattle.flatten_laws.specs.Statements.{statements, gives, once}
 use Rattle.flatten_laws.specs.Laws.{flattened, EntriesKeepTheirOrder, EntriesAreKept, EntriesStandOnce, NoLabelIsIssued, IsInOrder, IsFlatteningOf, OutcomeIsDetermined, FlatteningAgainChangesNothing}
-use Rattle.flatten_laws.proofs.Puts.{bytes_eq-exact}
+use Rattle.ld_model.proofs.Puts.{bytes_eq-exact}
 use Rattle.flatten_laws.proofs.Once.{gathered, gathered-once, any-once, distinct-once, once-once}
 use Rattle.flatten_laws.proofs.Graph.{IsNode}
 use Rattle.flatten_laws.proofs.Ids.{nodes_from, flattened-is, nodes_from_is_graph, nodes_ascend}

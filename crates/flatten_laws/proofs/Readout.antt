@@ -10,7 +10,7 @@ use Rattle.ld_model.specs.Keys.{id_key}
 use Rattle.ld_model.specs.NodeMap.{node_or_new, entries_of}
 use Rattle.ld_model.specs.Flatten.{has_more, nodes_of}
 use Rattle.flatten_laws.specs.Statements.{entries_in, members_in, is_same, member_states, object_states, statements}
-use Rattle.flatten_laws.proofs.Puts.{bytes_eq-exact, bytes_eq-sym, apart_before, at_first, at_later, ascending_head, ascending_tail}
+use Rattle.ld_model.proofs.Puts.{bytes_eq-exact, bytes_eq-sym, apart_before, at_first, at_later, ascending_head, ascending_tail}
 use Rattle.flatten_laws.proofs.Graph.{IsNode, IsGraph, members_of_node}
 use Rattle.flatten_laws.proofs.Ids.{id_of-node}
 use Rattle.flatten_laws.proofs.Gathering.{entries_in-is}

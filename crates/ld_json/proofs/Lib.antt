@@ -7,3 +7,5 @@ pub mod Punctuated
 pub mod GoodWords
 pub mod GrammarNumbers
 pub mod Accepted
+pub mod Builds
+pub mod Walks

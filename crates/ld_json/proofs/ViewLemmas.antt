@@ -209,7 +209,7 @@ insert_entry-behind (l ∷ ms) m ns sorted =
     let above : byte_order m.0 l.0 ≡ Greater = nat_list_cmp_total.antisymm m.0 l.0 ∙ ap ordering_reverse (first_before ms l.0 m ns sorted.0) in
     rw above (ap (λ xs. l ∷ xs) (insert_entry-behind ms m ns sorted.1))
 
-before_place : (ms : model.Pairs) (m : List ℕ × model.Tree) (ns : model.Pairs) → AreAscending (ms ++ m ∷ ns) → AreBefore ms m.0
+pub before_place : (ms : model.Pairs) (m : List ℕ × model.Tree) (ns : model.Pairs) → AreAscending (ms ++ m ∷ ns) → AreBefore ms m.0
 unfolding IsStrictlySortedBy
 before_place [] m ns sorted = tt
 before_place (l ∷ ms) m ns sorted = (first_before ms l.0 m ns sorted.0, before_place ms m ns sorted.1)

@@ -4,6 +4,7 @@
 //! bytes, [`Trees`] as a list of trees, and [`Members`] as a list of pairs of key and tree whose keys strictly ascend.
 #![tactic(auto)]
 
+mod building;
 mod copying;
 mod equality;
 mod location;
@@ -12,6 +13,7 @@ mod numbers;
 mod pointer;
 mod reading;
 mod value;
+mod walking;
 mod weighing;
 mod writing;
 
@@ -20,6 +22,7 @@ pub use location::{Place, Step};
 pub use pointer::pointer_of;
 pub use reading::{ReadRefusal, read_tree};
 pub use value::{Members, Tree, Trees};
+pub use walking::{Entries, IntoEntries, IntoValues, Values};
 pub use weighing::weight;
 pub use writing::text_of;
 

@@ -5,8 +5,8 @@ ghost use Rattle.ld_json.specs.View.{view, trees_view, members_view};
 ghost use Rattle.ld_json.specs.Marks as marks;
 
 use crate::location::{Place, Step};
-use ld_text::Text;
 use crate::value::Tree;
+use ld_text::Text;
 use std::alloc::{AllocError, Global};
 
 /// The first place, in the order of keys and items, where the number 1.1 stands elsewhere than as the value of a key

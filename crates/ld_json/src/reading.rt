@@ -8,8 +8,8 @@ ghost use Rattle.ld_json.specs.Read.{reading, reads, Refuses, SaysOfNumbers, num
 use crate::location::Place;
 use crate::marks::misplaced;
 use crate::numbers::refused_number;
-use ld_text::Text;
 use crate::value::{Members, Tree, Trees};
+use ld_text::Text;
 use serde_json::{Map, Number, Value};
 use std::alloc::{AllocError, Global};
 

@@ -7,7 +7,9 @@ ghost use Rattle.std_collections.specs.Layout.BTreeMap.{seek};
 ghost use Rattle.ld_model.specs.Tree as model;
 ghost use Rattle.ld_model.specs.Tree.{AreAscending, AreBefore, member_at, byte_order};
 ghost use Rattle.ld_json.specs.View.{view, trees_view, members_view};
+ghost use Rattle.ld_json.specs.Built.{built};
 
+use crate::building::{are_ascending, last_of_each, sorted};
 use ld_text::Text;
 use std::alloc::{AllocError, Global};
 use std::cmp::Ordering;
@@ -111,6 +113,13 @@ impl Trees {
         })
     }
 
+    /// A list of these values, which are moved and not copied.
+    pub fn from_vec(items: Vec<Tree>) -> Trees
+        ensures { result ≡ trees_view items.items }
+    {
+        Trees { items }
+    }
+
     /// How many values there are.
     pub fn len(&self) -> usize
         ensures { result ≡ length self.now }
@@ -176,11 +185,37 @@ impl Members {
         })
     }
 
+    /// The members that pairs of key and value make, in whichever order they stand: of pairs with one key the last one
+    /// stays. It takes linear time where the keys ascend, and else that of a sort.
+    ///
+    /// # Errors
+    ///
+    /// `AllocError` where memory is refused.
+    pub fn from_pairs(pairs: Vec<(Text, Tree)>) -> Result<Members, AllocError>
+        ensures { IfOk result (λ ms. ms ≡ built (members_view pairs.items)) }
+    {
+        if are_ascending(pairs.as_slice()) {
+            return Ok(Members { pairs });
+        }
+        let pairs = sorted(pairs)?;
+        if are_ascending(pairs.as_slice()) {
+            return Ok(Members { pairs });
+        }
+        last_of_each(pairs)
+    }
+
     /// How many members there are.
     pub fn len(&self) -> usize
         ensures { result ≡ length self.now }
     {
         self.pairs.len()
+    }
+
+    /// Whether there is no member.
+    pub fn is_empty(&self) -> bool
+        ensures { result ≡ model.is_empty self.now }
+    {
+        self.pairs.is_empty()
     }
 
     /// The value of a key; None where there is no such key.
