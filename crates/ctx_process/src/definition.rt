@@ -296,7 +296,7 @@ fn index_named(
 {
     let iri = expand_iri(alloc, context, text.as_str(), false, true)?;
     if container.index && is_iri(&iri) {
-        Ok(Some(text.copy(alloc)?))
+        Ok(Some(text.copy()?))
     } else {
         Err(ContextStop::Refused(Code::InvalidTermDefinition))
     }
@@ -318,7 +318,7 @@ pub(crate) fn language_of(
             } else {
                 match value {
                     Tree::Null => Ok(Slot::Null),
-                    Tree::Str(text) => Ok(Slot::Is(text.copy(alloc)?)),
+                    Tree::Str(text) => Ok(Slot::Is(text.copy()?)),
                     _ => Err(ContextStop::Refused(Code::InvalidLanguageMapping)),
                 }
             }
@@ -368,7 +368,7 @@ pub(crate) fn nest_of(alloc: Global, value: Option<&Tree>) -> Result<Option<Text
         Some(value) => match value {
             Tree::Str(text) => {
                 if !is_keyword(text.as_str()) || text.as_str() == "@nest" {
-                    Ok(Some(text.copy(alloc)?))
+                    Ok(Some(text.copy()?))
                 } else {
                     Err(ContextStop::Refused(Code::InvalidNestValue))
                 }

@@ -32,7 +32,7 @@ pub(crate) fn expand<C: Fn(&mut Progress, &str, &Tree) -> Result<(), ContextStop
         return Ok(None);
     }
     create_pending(create, local, state, text)?;
-    match by_definition(alloc, true, state.context.terms.get(text))? {
+    match by_definition(true, state.context.terms.get(text))? {
         Some(iri) => Ok(iri),
         None => {
             create_prefix(create, local, state, text)?;

@@ -212,7 +212,7 @@ fn scoped_base(
         None => Ok(None),
         Some(_) => match local.ask.base {
             None => Ok(None),
-            Some(base) => Ok(Some(base.copy(alloc)?)),
+            Some(base) => Ok(Some(base.copy()?)),
         },
     }
 }

@@ -107,8 +107,8 @@ pub(crate) fn chain_with(
 {
     let mut chain = Vec::with_capacity(alloc, remotes.len() + 1)?;
     for remote in remotes {
-        chain.push(remote.copy(alloc)?)?;
+        chain.push(remote.copy()?)?;
     }
-    chain.push(iri.copy(alloc)?)?;
+    chain.push(iri.copy()?)?;
     Ok(chain)
 }

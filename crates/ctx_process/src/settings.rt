@@ -90,7 +90,7 @@ fn new_base(alloc: Global, text: &Text, base: &Option<Text>) -> Result<Text, Con
     ensures { Answers result (λ b. b) (steps.new_base text.now base.now) }
 {
     if has_scheme(text.as_str()) {
-        return Ok(text.copy(alloc)?);
+        return Ok(text.copy()?);
     }
     match base {
         Some(base) => Ok(resolve(alloc, base.as_str(), text.as_str())?),
@@ -155,7 +155,7 @@ fn with_language(
             }
             Tree::Str(text) => {
                 let mut context = context;
-                context.language = Some(text.copy(alloc)?);
+                context.language = Some(text.copy()?);
                 Ok(context)
             }
             _ => Err(ContextStop::Refused(Code::InvalidDefaultLanguage)),

@@ -1,0 +1,7 @@
+//! Tests of texts.
+#![tactic(auto)]
+
+#[cfg(test)]
+mod order;
+#[cfg(test)]
+mod sizes;
