@@ -6,10 +6,11 @@ use Rattle.std.specs.Str.{bytes_eq}
 use Rattle.std.specs.List.{AllByRecursion}
 use Rattle.std.specs.List.Sorted.{ties, IsStableBy}
 use Rattle.std.specs.Map.{keys_of}
+use Rattle.std.specs.BTreeMap.{insert_entry}
 use Rattle.std.proofs.lemmas.Map.Text.{is_eq-slice_cmp}
 use Rattle.ld_model.specs.Tree as model
 use Rattle.ld_model.specs.Tree.{Pairs, AreAscending, IsBefore, byte_order, member_at, put, null}
-use Rattle.ld_model.proofs.Puts.{bytes_eq-exact, flipped, member_at-put, member_at-put_other, ascending-put, ascending_nil, ascending_cons, all_after, ascending_head}
+use Rattle.ld_model.proofs.Puts.{all-put, bytes_eq-exact, flipped, member_at-put, member_at-put_other, ascending-put, ascending_nil, ascending_cons, all_after, ascending_head}
 use Rattle.ld_model.proofs.SameMembers.{same_members}
 use Rattle.ld_model.proofs.Truths.{both}
 use Rattle.ld_json.specs.declared.value.Tree.{Tree}
@@ -17,6 +18,20 @@ use Rattle.ld_json.specs.declared.value.Tree.TheVariants.{Null}
 use Rattle.ld_json.specs.View.{view, members_view}
 use Rattle.ld_json.specs.Built.{put_all, built, is_first_after, ascend}
 use Rattle.ld_json.proofs.ViewLemmas.{insert_entry-behind}
+
+-- One more pair.
+pub put_all-append : (ps ms : Pairs) (p : List ℕ × model.Tree) → put_all (ps ++ p ∷ []) ms ≡ insert_entry byte_order (put_all ps ms) p.0 p.1
+put_all-append [] ms p = refl
+put_all-append (q ∷ ps) ms p = put_all-append ps (insert_entry byte_order ms q.0 q.1) p
+
+pub built-append : (ps : Pairs) (p : List ℕ × model.Tree) → built (ps ++ p ∷ []) ≡ insert_entry byte_order (built ps) p.0 p.1
+built-append ps p = put_all-append ps [] p
+
+-- What holds of each pair holds of each member.
+pub all-built : (P : List ℕ × model.Tree → Type 0) (ps ms : Pairs) → AllByRecursion P ms → AllByRecursion P ps → AllByRecursion P (put_all ps ms)
+unfolding put
+all-built P [] ms held all = held
+all-built P (p ∷ ps) ms held all = all-built P ps (insert_entry byte_order ms p.0 p.1) (all-put P p.0 p.1 ms all.0 held) all.1
 
 -- `put` is std's insertion.
 unfold_put : (k : List ℕ) (t : model.Tree) (ms : Pairs) → put_all ((k, t) ∷ []) ms ≡ put k t ms

@@ -9,3 +9,7 @@ pub mod GrammarNumbers
 pub mod Accepted
 pub mod Builds
 pub mod Walks
+pub mod Turns
+pub mod Knot
+pub mod Whole
+pub mod Unmarked

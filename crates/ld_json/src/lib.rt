@@ -5,6 +5,8 @@
 #![tactic(auto)]
 
 mod building;
+mod by_tokens;
+mod by_value;
 mod copying;
 mod equality;
 mod location;
@@ -12,6 +14,7 @@ mod marks;
 mod numbers;
 mod pointer;
 mod reading;
+mod token_numbers;
 mod value;
 mod walking;
 mod weighing;

@@ -84,7 +84,7 @@ fn word_of(text: &[u8]) -> &[u8]
 }
 
 /// Whether a number token is `0`, `1.1`, or a whole number of at most 2^53 in magnitude without a zero in front.
-fn is_accepted(word: &[u8]) -> bool
+pub(crate) fn is_accepted(word: &[u8]) -> bool
     ensures { result ≡ is_accepted word.now }
 {
     word == b"0".as_slice() || word == b"1.1".as_slice() || is_magnitude(without_minus(word))

@@ -5,7 +5,7 @@ use Rattle.ld_json.specs.View.{view}
 use Rattle.ld_model.specs.Tree.{array, object, trees_of, members_of}
 use Rattle.ld_json.specs.Read.{value_tree, value_member}
 use Rattle.ld_json.proofs.ReadValues.{value_tree-Array, value_tree-Object, set-next}
-use Rattle.ld_json.proofs.reading.+tree.Goals as goal
+use Rattle.ld_json.proofs.by_value.+tree.Goals as goal
 
 pub members-loop-key-preserved : goal.members-loop-key-preserved
 members-loop-key-preserved t c =

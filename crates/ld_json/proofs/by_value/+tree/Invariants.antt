@@ -1,6 +1,6 @@
 use Rattle.std.proofs.Common.{◌≡◌, ◌++◌, map}
 use Rattle.ld_json.specs.Read.{value_tree, value_member}
-use Rattle.ld_json.proofs.reading.+tree.Given as goal
+use Rattle.ld_json.proofs.by_value.+tree.Given as goal
 
 abbrev pub invariant-members-loop-key : goal.invariant-members-loop-key
 invariant-members-loop-key l = l.members ++ map value_member l.key-iterator ≡ map value_member l.fn.object.entries

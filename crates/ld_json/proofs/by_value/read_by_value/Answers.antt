@@ -4,7 +4,7 @@ use Rattle.serde_json.specs.View.{view as value_view}
 use Rattle.ld_json.specs.View.{view}
 use Rattle.ld_json.proofs.ReadValues.{reading-utf8, reading-no_json, reading-tree}
 use Rattle.ld_json.proofs.Accepted.{accepted}
-use Rattle.ld_json.proofs.reading.read_tree.Goals as goal
+use Rattle.ld_json.proofs.by_value.read_by_value.Goals as goal
 
 pub returns-in-Err-clause-answer : goal.returns-in-Err-clause-answer
 returns-in-Err-clause-answer c = reading-no_json c.args.bytes.now (c.in-Err.ensures.err (λ m. grind (arith, common_steps)))
