@@ -1,2 +1,5 @@
 pub mod Merging
 pub mod Nothing
+pub mod Agreement
+pub mod Lookups
+pub mod Keeping

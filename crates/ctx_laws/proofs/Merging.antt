@@ -63,6 +63,19 @@ all_merged P (e ∷ es) imports a b = inner (λ is b. all_merged P es is a.1 b) 
         step Equal h next = subst (λ ms. AllByRecursion P (keys_of ms)) (sym (merged_step e es i is Equal h)) (a.0, rest is b.1)
         step Greater h next = subst (λ ms. AllByRecursion P (keys_of ms)) (sym (merged_step e es i is Greater h)) (b.0, next)
 
+pub entries_merged : (P : Text × Tree → Type 0) (own imports : Pairs) → AllByRecursion P own → AllByRecursion P imports → AllByRecursion P (merged own imports)
+entries_merged P [] imports a b = b
+entries_merged P (e ∷ es) imports a b = inner (λ is b. entries_merged P es is a.1 b) imports b
+  where
+    inner : ((is : Pairs) → AllByRecursion P is → AllByRecursion P (merged es is)) → (is : Pairs) → AllByRecursion P is → AllByRecursion P (merged (e ∷ es) is)
+    inner rest [] b = (a.0, rest [] b)
+    inner rest (i ∷ is) b = step (byte_order e.0 i.0) refl (inner rest is b.1)
+      where
+        step : (o : Ordering) → byte_order e.0 i.0 ≡ o → AllByRecursion P (merged (e ∷ es) is) → AllByRecursion P (merged (e ∷ es) (i ∷ is))
+        step Less h next = subst (AllByRecursion P) (sym (merged_step e es i is Less h)) (a.0, rest (i ∷ is) b)
+        step Equal h next = subst (AllByRecursion P) (sym (merged_step e es i is Equal h)) (a.0, rest is b.1)
+        step Greater h next = subst (AllByRecursion P) (sym (merged_step e es i is Greater h)) (b.0, next)
+
 merge_ascends : (own imports : Pairs) → AreAscending own → AreAscending imports → AreAscending (merged own imports)
 merge_ascends [] imports a b = b
 merge_ascends (e ∷ es) imports a b = inner (λ is b. merge_ascends es is (sorted_tail e es a) b) imports b
