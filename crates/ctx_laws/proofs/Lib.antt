@@ -3,3 +3,5 @@ pub mod Nothing
 pub mod Agreement
 pub mod Lookups
 pub mod Keeping
+pub mod Original
+pub mod Turns

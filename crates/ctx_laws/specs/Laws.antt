@@ -1,12 +1,14 @@
 -- The laws of context processing.
-use Rattle.std.specs.Prelude.{ℕ, ◌≡◌, List, true, Result, Ok}
+use Rattle.std.specs.Prelude.{ℕ, ◌≡◌, List, [], ◌∷◌, ◌++◌, true, false, Result, Ok, Err, if◌then◌else◌}
 use Rattle.std.specs.Option.{option_or}
-use Rattle.ld_model.specs.Tree.{Tree, Pairs, member_at, AreAscending}
+use Rattle.ld_model.specs.Tree.{Tree, null, array, trees_of, Pairs, member_at, AreAscending}
 use Rattle.case_tables.specs.declared.code.Code.{Code}
+use Rattle.case_tables.specs.declared.code.Code.TheVariants.{InvalidContextNullification}
 use Rattle.ctx_types.specs.Context.{Text, Context}
 use Rattle.ctx_store.specs.Stored.{Contexts}
+use Rattle.ctx_model.specs.Outcome.{◌>>=◌}
 use Rattle.ctx_model.specs.Process.{Ask, merged, with_previous, process}
-use Rattle.ctx_laws.specs.Statements.{IsNothing}
+use Rattle.ctx_laws.specs.Statements.{IsNothing, stands_against_null, anew, over, IsItem, MayBeParted}
 
 -- The merge of an item's own entries with imported ones has at each key the own value, or else the imported one; and its keys
 -- ascend as theirs do.
@@ -20,3 +22,13 @@ ImportsGiveWay = (own imports : Pairs) → AreAscending own → AreAscending imp
 -- An empty map or array gives the active context, which remembers itself where the call does not propagate.
 abbrev pub NothingChangesNothing : Type 0
 NothingChangesNothing = (store : Contexts) (ask : Ask) (local : Tree) → IsNothing local → process store ask local ≡ Ok (with_previous ask.propagates ask.active)
+
+-- Null is refused exactly where protected terms stand against it, and else begins anew.
+abbrev pub NullBeginsAnew : Type 0
+NullBeginsAnew = (store : Contexts) (ask : Ask) → process store ask null ≡ (if stands_against_null ask then Err InvalidContextNullification else Ok (anew ask))
+
+-- An array is processed part by part, and an item in it as by itself.
+pub record ItemsGoInTurn : Type 0 where
+  pub parts : (store : Contexts) (ask : Ask) (first second : List Tree) → MayBeParted store ask first second → process store ask (array (trees_of (first ++ second))) ≡ (process store ask (array (trees_of first)) >>= (λ c. process store (over ask c) (array (trees_of second))))
+  pub alone : (store : Contexts) (ask : Ask) (local : Tree) → IsItem ask local → process store ask (array (trees_of (local ∷ []))) ≡ process store ask local
+  pub two : (store : Contexts) (ask : Ask) (a b : Tree) → IsItem ask a → IsItem ask b → MayBeParted store ask (a ∷ []) (b ∷ []) → process store ask (array (trees_of (a ∷ b ∷ []))) ≡ (process store ask a >>= (λ c. process store (over ask c) b))
