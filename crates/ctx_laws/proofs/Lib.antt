@@ -5,3 +5,4 @@ pub mod Lookups
 pub mod Keeping
 pub mod Original
 pub mod Turns
+pub mod Fuel

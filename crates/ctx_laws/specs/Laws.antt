@@ -1,14 +1,16 @@
 -- The laws of context processing.
-use Rattle.std.specs.Prelude.{ℕ, ◌≡◌, List, [], ◌∷◌, ◌++◌, true, false, Result, Ok, Err, if◌then◌else◌}
+use Rattle.std.specs.Prelude.{ℕ, ◌≡◌, ◌≤◌, is_some, length, List, [], ◌∷◌, ◌++◌, true, false, Result, Ok, Err, if◌then◌else◌}
 use Rattle.std.specs.Option.{option_or}
 use Rattle.ld_model.specs.Tree.{Tree, null, array, trees_of, Pairs, member_at, AreAscending}
 use Rattle.case_tables.specs.declared.code.Code.{Code}
 use Rattle.case_tables.specs.declared.code.Code.TheVariants.{InvalidContextNullification}
 use Rattle.ctx_types.specs.Context.{Text, Context}
 use Rattle.ctx_store.specs.Stored.{Contexts}
+use Rattle.ctx_model.specs.State.{State, Local, Scoped}
+use Rattle.ctx_model.specs.Creation.{create_within}
 use Rattle.ctx_model.specs.Outcome.{◌>>=◌}
-use Rattle.ctx_model.specs.Process.{Ask, merged, with_previous, process}
-use Rattle.ctx_laws.specs.Statements.{IsNothing, stands_against_null, anew, over, IsItem, MayBeParted}
+use Rattle.ctx_model.specs.Process.{Ask, merged, with_previous, terms_created, process}
+use Rattle.ctx_laws.specs.Statements.{IsNothing, stands_against_null, anew, over, untouched, IsItem, MayBeParted}
 
 -- The merge of an item's own entries with imported ones has at each key the own value, or else the imported one; and its keys
 -- ascend as theirs do.
@@ -32,3 +34,9 @@ pub record ItemsGoInTurn : Type 0 where
   pub parts : (store : Contexts) (ask : Ask) (first second : List Tree) → MayBeParted store ask first second → process store ask (array (trees_of (first ++ second))) ≡ (process store ask (array (trees_of first)) >>= (λ c. process store (over ask c) (array (trees_of second))))
   pub alone : (store : Contexts) (ask : Ask) (local : Tree) → IsItem ask local → process store ask (array (trees_of (local ∷ []))) ≡ process store ask local
   pub two : (store : Contexts) (ask : Ask) (a b : Tree) → IsItem ask a → IsItem ask b → MayBeParted store ask (a ∷ []) (b ∷ []) → process store ask (array (trees_of (a ∷ b ∷ []))) ≡ (process store ask a >>= (λ c. process store (over ask c) b))
+
+-- For a term that is a key of the local context, any number from that of the keys of which `defined` says nothing on gives the
+-- same outcome; and for all entries of a local context, any number from theirs on.
+pub record KeysAreEnough : Type 0 where
+  pub term : (scoped : Scoped) (l : Local) (n more : ℕ) (t : Text) (v : Tree) (s : State) → is_some (member_at t l.entries) ≡ true → untouched l.entries s ≤ n → n ≤ more → create_within scoped l more t v s ≡ create_within scoped l n t v s
+  pub entries : (scoped : Scoped) (l : Local) (more : ℕ) (s : State) → length l.entries ≤ more → terms_created (λ t v s. create_within scoped l more t v s) l.entries s ≡ terms_created (λ t v s. create_within scoped l (length l.entries) t v s) l.entries s

@@ -1,9 +1,10 @@
 -- Words in which the laws of context processing are stated.
-use Rattle.std.specs.Prelude.{◌≡◌, Bool, true, false, not, ◌&&◌, ◌||◌, List, [], ◌∷◌, Result, Ok, if◌then◌else◌}
+use Rattle.std.specs.Prelude.{◌≡◌, ℕ, ◌+◌, is_none, Bool, true, false, not, ◌&&◌, ◌||◌, List, [], ◌∷◌, Result, Ok, if◌then◌else◌}
 use Rattle.std.specs.List.{list_any}
-use Rattle.ld_model.specs.Tree.{Tree, null, truth, whole, one_one, text, array, object, no_trees, trees_of, no_members, is_empty}
+use Rattle.ld_model.specs.Tree.{Tree, Pairs, null, truth, whole, one_one, text, array, object, no_trees, trees_of, no_members, is_empty}
 use Rattle.ctx_types.specs.Context.{Context, Settings, has_protected, initial}
 use Rattle.ctx_store.specs.Stored.{Contexts}
+use Rattle.ctx_model.specs.State.{State, mark_of}
 use Rattle.ctx_model.specs.Process.{Ask, process, propagates_in}
 
 -- The local context has nothing in it: an empty map, or an empty array.
@@ -48,3 +49,8 @@ pub record MayBeParted (store : Contexts) (ask : Ask) (first second : List Tree)
   -- Null looks for protected terms in the context that was handed in. So where it stands in the second part, and protected
   -- terms may not be overridden, what the first part gives has protected terms just if the active context has.
   pub protection : (c : Context) → process store ask (array (trees_of first)) ≡ Ok c → list_any is_null second ≡ true → ask.overrides ≡ false → has_protected c.current.terms ≡ has_protected ask.active.current.terms
+
+-- How many of the entries have a key of which `defined` says nothing yet.
+abbrev pub untouched : Pairs → State → ℕ
+untouched [] s = 0
+untouched (e ∷ es) s = (if is_none (mark_of e.0 s) then 1 else 0) + untouched es s

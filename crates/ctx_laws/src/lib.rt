@@ -4,7 +4,7 @@
 //! words of `specs/Statements.antt`.
 #![tactic(auto)]
 
-ghost use Rattle.ctx_laws.specs.Laws.{ImportsGiveWay, ItemsGoInTurn, NothingChangesNothing, NullBeginsAnew};
+ghost use Rattle.ctx_laws.specs.Laws.{ImportsGiveWay, ItemsGoInTurn, KeysAreEnough, NothingChangesNothing, NullBeginsAnew};
 
 /// In an item with an import, an entry of the import gives way to the item's own entry of that key, and every other one
 /// stands as if it were written in the item (section 4.1.2, step 5.6.8). This is said of what stands at each key, and of the
@@ -38,4 +38,12 @@ pub fn null_begins_anew()
 /// context that was handed in, and not in what came of the items before.
 pub fn items_go_in_turn()
     ensures { ItemsGoInTurn }
+{}
+
+/// The number by which the definition of term creation ends its recursion has no say in the outcome (section 4.2.2). For a term
+/// that is a key of the local context, any number from that of the keys of which `defined` says nothing yet gives the same; and
+/// for all entries of a local context, one after another, any number from theirs, which is the one that context processing
+/// takes. So no `cyclic IRI mapping` is for want of a greater number: each one is a cycle, found by step 1.
+pub fn keys_are_enough()
+    ensures { KeysAreEnough }
 {}
