@@ -1,0 +1,56 @@
+-- Words in which the laws of context processing are stated.
+use Rattle.std.specs.Prelude.{◌≡◌, ℕ, ◌+◌, is_none, Bool, true, false, not, ◌&&◌, ◌||◌, List, [], ◌∷◌, Result, Ok, if◌then◌else◌}
+use Rattle.std.specs.List.{list_any}
+use Rattle.ld_model.specs.Tree.{Tree, Pairs, null, truth, whole, one_one, text, array, object, no_trees, trees_of, no_members, is_empty}
+use Rattle.ctx_types.specs.Context.{Context, Settings, has_protected, initial}
+use Rattle.ctx_store.specs.Stored.{Contexts}
+use Rattle.ctx_model.specs.State.{State, mark_of}
+use Rattle.ctx_model.specs.Process.{Ask, process, propagates_in}
+
+-- The local context has nothing in it: an empty map, or an empty array.
+pub data IsNothing : Tree → Type 0 where
+  empty_map : IsNothing (object no_members)
+  empty_array : IsNothing (array no_trees)
+
+-- Protected terms of the active context stand against null (section 4.1.2, step 5.1.1).
+abbrev pub stands_against_null : Ask → Bool
+stands_against_null ask = not ask.overrides && has_protected ask.active.current.terms
+
+-- The active context, followed by its previous contexts; where it has none, it is its own previous context, by step 3.
+abbrev pub remembered : Context → List Settings
+remembered c = c.current ∷ (if is_empty c.earlier then c.current ∷ [] else c.earlier)
+
+-- A newly initialized context with the original base URL. Where the call does not propagate, it remembers the active one.
+abbrev pub anew : Ask → Context
+anew ask = record (initial ask.active.current.original) { earlier = if ask.propagates then [] else remembered ask.active }
+
+-- The same call, over another active context.
+abbrev pub over : Ask → Context → Ask
+over ask c = record ask { active = c }
+
+-- The local context is no array.
+abbrev pub is_item : Tree → Bool
+is_item (array ts) = false
+is_item _ = true
+
+abbrev pub is_null : Tree → Bool
+is_null null = true
+is_null _ = false
+
+-- The local context is one item, whose `@propagate`, if it has one, says what the call says: in an array it is not looked at.
+pub record IsItem (ask : Ask) (local : Tree) : Type 0 where
+  pub item : is_item local ≡ true
+  pub propagates : propagates_in ask.propagates local ≡ ask.propagates
+
+-- Where the items of an array may be processed in two parts, the second over what the first gives.
+pub record MayBeParted (store : Contexts) (ask : Ask) (first second : List Tree) : Type 0 where
+  -- The call propagates, or the first part gives a context that remembers one: the second part begins with step 3 again.
+  pub previous : (c : Context) → process store ask (array (trees_of first)) ≡ Ok c → (ask.propagates || not (is_empty c.earlier)) ≡ true
+  -- Null looks for protected terms in the context that was handed in. So where it stands in the second part, and protected
+  -- terms may not be overridden, what the first part gives has protected terms just if the active context has.
+  pub protection : (c : Context) → process store ask (array (trees_of first)) ≡ Ok c → list_any is_null second ≡ true → ask.overrides ≡ false → has_protected c.current.terms ≡ has_protected ask.active.current.terms
+
+-- How many of the entries have a key of which `defined` says nothing yet.
+abbrev pub untouched : Pairs → State → ℕ
+untouched [] s = 0
+untouched (e ∷ es) s = (if is_none (mark_of e.0 s) then 1 else 0) + untouched es s
