@@ -28,7 +28,7 @@ pub(crate) fn iri(
     text: &str,
 ) -> Result<String, AllocError> {
     match expand_iri(alloc, context, text, false, true)? {
-        Some(iri) => Ok(iri.into_string()),
+        Some(iri) => String::from_str(alloc, iri.as_str()),
         None => String::from_str(alloc, "null"),
     }
 }
