@@ -14,6 +14,7 @@ mod marks;
 mod numbers;
 mod pointer;
 mod reading;
+mod saying;
 mod token_numbers;
 mod value;
 mod walking;
@@ -28,6 +29,3 @@ pub use value::{Members, Tree, Trees};
 pub use walking::{Entries, IntoEntries, IntoValues, Values};
 pub use weighing::weight;
 pub use writing::text_of;
-
-#[cfg(test)]
-mod tests;
