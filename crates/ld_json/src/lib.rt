@@ -9,6 +9,7 @@ mod by_tokens;
 mod by_value;
 mod copying;
 mod equality;
+mod laws;
 mod location;
 mod marks;
 mod numbers;
@@ -21,6 +22,7 @@ mod walking;
 mod weighing;
 mod writing;
 
+pub use laws::named_byte_begins_the_first_refused_number;
 pub use ld_text::Text;
 pub use location::{Place, Step};
 pub use pointer::pointer_of;
