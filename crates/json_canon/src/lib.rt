@@ -5,8 +5,6 @@
 
 mod laws;
 mod order;
-#[cfg(test)]
-mod tests;
 mod writing;
 
 pub use laws::{canonical_text_reads_back, less_utf16_orders_texts, members_are_sorted};

@@ -1,14 +1,13 @@
 // The canonical text of a tree.
 ghost use Rattle.std.specs.Prelude.{◌≡◌, ◌++◌, [], map, OnOk, IfOk};
 ghost use Rattle.json.specs.Tree.{json_tokens};
-ghost use Rattle.ld_json.specs.View.{view, members_view};
-ghost use Rattle.ld_model.specs.Tree.{AreAscending};
+ghost use Rattle.ld_json.specs.View.{view};
 ghost use Rattle.json_canon.specs.Lent.{lent};
 ghost use Rattle.json_canon.specs.Canonical.{canonical_text, in_order, json_of, with_members_in_order};
 
 use crate::order::compare_utf16;
 use json::Writer;
-use ld_json::{Text, Tree};
+use ld_json::{Members, Tree};
 use std::alloc::{AllocError, Global};
 
 /// The canonical text of a tree (RFC 8785): no white space; the members of each object in the order of the UTF-16
@@ -36,14 +35,14 @@ fn write_tree(alloc: Global, out: &mut Writer, tree: &Tree) -> Result<(), AllocE
         Tree::Str(text) => out.string(text.as_str()),
         Tree::Items(trees) => {
             out.begin_array()?;
-            for tree in trees.as_slice() {
+            for tree in trees {
                 write_tree(alloc, out, tree)?;
             }
             out.end_array()
         }
         Tree::Map(members) => {
             out.begin_object()?;
-            let sorted = sorted_members(alloc, members.as_slice())?;
+            let sorted = sorted_members(alloc, members)?;
             for (name, tree) in sorted.as_slice() {
                 out.key(name)?;
                 write_tree(alloc, out, tree)?;
@@ -54,8 +53,7 @@ fn write_tree(alloc: Global, out: &mut Writer, tree: &Tree) -> Result<(), AllocE
 }
 
 /// The members of an object in the order of the UTF-16 code units of their names.
-fn sorted_members(alloc: Global, members: &[(Text, Tree)]) -> Result<Vec<(&str, &Tree)>, AllocError>
-    requires { AreAscending (members_view members.now) }
+fn sorted_members(alloc: Global, members: &Members) -> Result<Vec<(&str, &Tree)>, AllocError>
     ensures { IfOk result (λ v. map lent v.items ≡ in_order members.now) }
 {
     let mut sorted = Vec::with_capacity(alloc, members.len())?;

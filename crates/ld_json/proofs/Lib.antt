@@ -13,3 +13,4 @@ pub mod Turns
 pub mod Knot
 pub mod Whole
 pub mod Unmarked
+pub mod NumberLaws

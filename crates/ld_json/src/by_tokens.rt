@@ -24,6 +24,9 @@ use std::alloc::{AllocError, Global};
 /// How deep a text may nest.
 const MAX_DEPTH: usize = 127;
 
+/// How many values or members are so few that room for more is given back.
+const FEW: usize = 2048;
+
 /// Why no tree was read.
 #[derive(Clone, Copy, Debug, Drop)]
 pub(crate) enum Stop {
@@ -189,6 +192,7 @@ fn read_items(
         let item = read(alloc, reader, seen, depth)?;
         push(&mut found, item)?;
     }
+    fit(&mut found);
     Ok(Trees::from_vec(found))
 }
 
@@ -219,6 +223,7 @@ fn read_members(
         let member = read(alloc, reader, seen, depth)?;
         push(&mut found, (key, member))?;
     }
+    fit(&mut found);
     Ok(Members::from_pairs(found)?)
 }
 
@@ -240,4 +245,15 @@ fn make_room<T>(found: &mut Vec<T>) -> Result<(), AllocError>
         return Ok(());
     }
     found.reserve_exact(found.len().max(1))
+}
+
+/// Gives back the room that was made and isn't needed. Many small arrays would keep up to half of theirs, while a large one
+/// never touched it, and would have to be copied.
+#[inline(always)]
+fn fit<T>(found: &mut Vec<T>)
+    ensures { found.new.items ≡ found.old.items }
+{
+    if found.capacity() <= FEW {
+        found.shrink_to_fit();
+    }
 }

@@ -18,14 +18,14 @@ impl Tree {
             Tree::Str(text) => Ok(Tree::Str(text.copy()?)),
             Tree::Items(trees) => {
                 let mut items = Trees::with_capacity(alloc, trees.len())?;
-                for tree in trees.as_slice() {
+                for tree in trees {
                     items.push(tree.copy(alloc)?)?;
                 }
                 Ok(Tree::Items(items))
             }
             Tree::Map(members) => {
                 let mut pairs = Members::with_capacity(alloc, members.len())?;
-                for (key, tree) in members.as_slice() {
+                for (key, tree) in members {
                     pairs.append(key.copy()?, tree.copy(alloc)?)?;
                 }
                 Ok(Tree::Map(pairs))

@@ -9,17 +9,20 @@ mod by_tokens;
 mod by_value;
 mod copying;
 mod equality;
+mod laws;
 mod location;
 mod marks;
 mod numbers;
 mod pointer;
 mod reading;
+mod saying;
 mod token_numbers;
 mod value;
 mod walking;
 mod weighing;
 mod writing;
 
+pub use laws::named_byte_begins_the_first_refused_number;
 pub use ld_text::Text;
 pub use location::{Place, Step};
 pub use pointer::pointer_of;
@@ -28,6 +31,3 @@ pub use value::{Members, Tree, Trees};
 pub use walking::{Entries, IntoEntries, IntoValues, Values};
 pub use weighing::weight;
 pub use writing::text_of;
-
-#[cfg(test)]
-mod tests;

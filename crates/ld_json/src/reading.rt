@@ -9,27 +9,34 @@ use crate::by_value::read_by_value;
 use crate::location::Place;
 use crate::value::Tree;
 use std::alloc::{AllocError, Global};
+use thiserror::Error;
 
-/// Texts of at most so many bytes are read by the value that `serde_json` makes of them.
-const SMALL: usize = 1024;
+/// Texts of at most so many bytes are read by the value that `serde_json` makes of them, in whose words the clauses of
+/// [`read_tree`] speak. It takes about twice the time that tokens take, and 15 times the memory, which so small a text
+/// has ample room for: some microseconds, and 40 kilobytes at most.
+const SMALL: usize = 256;
 
-/// Why a text gives no tree.
-#[derive(Debug, Drop)]
+/// Why a text gives no tree. It is printed in the words of the program's lines.
+#[derive(Debug, Drop, Error)]
 pub enum ReadRefusal {
     /// The bytes are no JSON text (RFC 8259), no UTF-8, or nested more than 127 deep.
+    #[error("syntax")]
     Syntax,
     /// A number is neither `0`, nor `1.1`, nor a whole number of a magnitude of at most 9,007,199,254,740,992 without a
     /// zero in front.
+    #[error("number at byte {at}")]
     Number {
         /// The place of the first byte, counted from 0, of the first such number.
         at: u64,
     },
     /// The number 1.1 stands elsewhere than as the value of a key `@version`.
+    #[error("version number at {place}")]
     VersionNumber {
         /// The first place where it does, in the order of keys and items.
         place: Place,
     },
     /// Memory was refused.
+    #[error("out of memory")]
     OutOfMemory,
 }
 

@@ -2,10 +2,9 @@
 ghost use Rattle.std.specs.Prelude.{◌≡◌, ◌-◌, ◌^◌, min};
 ghost use Rattle.ld_model.specs.Tree.{trees_of, members_of, trees_weight, members_weight};
 ghost use Rattle.ld_model.specs.Tree as model;
-ghost use Rattle.ld_json.specs.View.{view, trees_view, members_view};
+ghost use Rattle.ld_json.specs.View.{view};
 
-use crate::value::Tree;
-use ld_text::Text;
+use crate::value::{Members, Tree, Trees};
 
 /// How many values a tree has in it, itself included and keys not counted; or 2^64 - 1 where there are more.
 #[cycle(weighing)]
@@ -13,15 +12,15 @@ pub fn weight(tree: &Tree) -> u64
     ensures { result ≡ min (model.weight (view tree.now)) (2 ^ 64 - 1) }
 {
     match tree {
-        Tree::Items(trees) => items_weight(trees.as_slice()).saturating_add(1),
-        Tree::Map(members) => pairs_weight(members.as_slice()).saturating_add(1),
+        Tree::Items(trees) => items_weight(trees).saturating_add(1),
+        Tree::Map(members) => pairs_weight(members).saturating_add(1),
         _ => 1,
     }
 }
 
 #[cycle(weighing)]
-fn items_weight(trees: &[Tree]) -> u64
-    ensures { result ≡ min (trees_weight (trees_of (trees_view trees.now))) (2 ^ 64 - 1) }
+fn items_weight(trees: &Trees) -> u64
+    ensures { result ≡ min (trees_weight (trees_of trees.now)) (2 ^ 64 - 1) }
 {
     let mut sum = 0u64;
     for tree in trees {
@@ -31,12 +30,12 @@ fn items_weight(trees: &[Tree]) -> u64
 }
 
 #[cycle(weighing)]
-fn pairs_weight(members: &[(Text, Tree)]) -> u64
-    ensures { result ≡ min (members_weight (members_of (members_view members.now))) (2 ^ 64 - 1) }
+fn pairs_weight(members: &Members) -> u64
+    ensures { result ≡ min (members_weight (members_of members.now)) (2 ^ 64 - 1) }
 {
     let mut sum = 0u64;
-    for member in members {
-        sum = sum.saturating_add(weight(&member.1));
+    for (_, tree) in members {
+        sum = sum.saturating_add(weight(tree));
     }
     sum
 }

@@ -32,7 +32,7 @@ fn write_tree(alloc: Global, out: &mut Vec<u8>, tree: &Tree) -> Result<(), Alloc
         Tree::Items(trees) => {
             out.push(b'[')?;
             let mut later = false;
-            for tree in trees.as_slice() {
+            for tree in trees {
                 write_comma(out, later)?;
                 write_tree(alloc, out, tree)?;
                 later = true;
@@ -43,7 +43,7 @@ fn write_tree(alloc: Global, out: &mut Vec<u8>, tree: &Tree) -> Result<(), Alloc
         Tree::Map(members) => {
             out.push(b'{')?;
             let mut later = false;
-            for (key, tree) in members.as_slice() {
+            for (key, tree) in members {
                 write_comma(out, later)?;
                 write_quoted(out, key.as_str())?;
                 out.push(b':')?;

@@ -1,8 +1,8 @@
-use Rattle.std.proofs.Common.{◌≡◌, ◌++◌, ◌∷◌, drop, map}
+use Rattle.std.proofs.Common.{◌≡◌, ◌≤◌, ◌++◌, ◌∷◌, drop, map}
 use Rattle.json.specs.Token.{begin_array, begin_object}
 use Rattle.json.specs.Tree.{items_tokens, members_tokens}
-use Rattle.ld_model.specs.Tree.{weight, trees_of, members_of}
-use Rattle.ld_json.specs.View.{view, trees_view}
+use Rattle.ld_model.specs.Tree.{weight, trees_weight, trees_of, members_of}
+use Rattle.ld_json.specs.View.{view}
 use Rattle.json_canon.specs.Canonical.{json_items, json_members, each_in_order}
 use Rattle.json_canon.proofs.Members.{written}
 use Rattle.json_canon.proofs.writing.+write_tree.Given as goal
@@ -13,7 +13,8 @@ decreases-write_tree l = weight (view l.tree.now)
 abbrev pub invariant-loop-tree : goal.invariant-loop-tree
 invariant-loop-tree l = record {
   before : l.out.before ≡ l.fn.out.before;
-  tokens : l.out.tokens ++ items_tokens (json_items (each_in_order (trees_of (trees_view (drop l.tree-index l.tree-items))))) ≡ l.fn.out.tokens ++ begin_array ∷ items_tokens (json_items (each_in_order (trees_of (trees_view l.tree-items))));
+  tokens : l.out.tokens ++ items_tokens (json_items (each_in_order (trees_of l.tree-iterator))) ≡ l.fn.out.tokens ++ begin_array ∷ items_tokens (json_items (each_in_order (trees_of l.initial.tree-iterator)));
+  lighter : trees_weight (trees_of l.tree-iterator) ≤ trees_weight (trees_of l.initial.tree-iterator);
 }
 
 abbrev pub invariant-loop-name : goal.invariant-loop-name
