@@ -17,6 +17,7 @@ use Rattle.ctx_model.specs.State.{State, Local, Scoped}
 use Rattle.ctx_model.specs.Definition.{side_named}
 use Rattle.ctx_model.specs.Creation.{create_within}
 use Rattle.ctx_model.specs.Process.{Ask, Process, Remote, propagates_in, with_previous, items_of, nullified, resolved_by, loaded, imported, importable, without_import, merged, is_known_version, new_base, based_by, based_on, based, vocab_named, vocab_set, language_set, side_set, settings_taken, is_term_key, entry_created, terms_created, local_of, scoped_ask, remote_ask, remote_taken, terms_taken, map_taken, item_taken, items_taken, processed, overflows, goes_into, too_deep, scoped_within, process_within}
+use Rattle.ctx_laws.specs.Statements.{ItemHas}
 use Rattle.ctx_laws.proofs.Merging.{entries_merged}
 
 -- a step that goes on from a value of which Q holds
@@ -94,11 +95,6 @@ previous_keeps propagates c = by (propagates || not (is_empty c.earlier))
     by : (b : Bool) → HasTermsOf c (if b then c else record c { earlier = c.current ∷ [] })
     by true = has_own c
     by false = record { terms = refl; original = refl }
-
--- Each entry of an item that is a map has the property.
-abbrev pub ItemHas : (Text × Tree → Type 0) → Tree → Type 0
-ItemHas E (object ms) = AllByRecursion E (member_list ms)
-ItemHas E _ = Unit {0}
 
 module _ (store : Contexts) (K : Context → Type 0) (C : Bool → Type 0) (E : Text × Tree → Type 0) where
   pub record Kept : Type 0 where

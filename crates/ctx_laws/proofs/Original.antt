@@ -10,8 +10,9 @@ use Rattle.ctx_model.specs.Outcome.{unless}
 use Rattle.ctx_model.specs.State.{State, Local, Scoped, mark_of}
 use Rattle.ctx_model.specs.Creation.{create_new, unless_defined, create_within}
 use Rattle.ctx_model.specs.Process.{Ask, items_of, nullified, process_within}
+use Rattle.ctx_laws.specs.Statements.{ItemHas}
 use Rattle.ctx_laws.proofs.Agreement.{itself, Agree, Bears, create_agrees}
-use Rattle.ctx_laws.proofs.Keeping.{after_any, HasTermsOf, ItemHas, Kept, process_keeps}
+use Rattle.ctx_laws.proofs.Keeping.{after_any, HasTermsOf, Kept, process_keeps}
 
 module _ (base : Option Text) where
   abbrev Has : Context → Type 0
