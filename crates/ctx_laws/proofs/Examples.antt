@@ -6,8 +6,8 @@ use Rattle.case_tables.specs.declared.code.Code.{Code}
 use Rattle.case_tables.specs.declared.code.Code.TheVariants.{InvalidLocalContext}
 use Rattle.ctx_types.specs.Context.{Text, Definition, Context, definition_at, initial}
 use Rattle.ctx_model.specs.LocalExpansion.{created, prefix_created, expand_iri}
-use Rattle.ctx_model.specs.Definition.{without_colon, completed, finished}
-use Rattle.ctx_model.specs.Creation.{started, reverse_created, agreeing, id_mapping, term_mapping, mapping_of, directed, defined_by, create_new}
+use Rattle.ctx_model.specs.Definition.{completed, finished}
+use Rattle.ctx_model.specs.Creation.{started, reverse_created, agreeing, id_mapping, mapping_of, directed, defined_by, create_new}
 use Rattle.ctx_model.specs.Process.{Ask, settings_taken, terms_taken, map_taken, item_taken, processed, process}
 
 -- Maps, given their entries in ascending order.

@@ -1,5 +1,5 @@
 -- The number of keys is enough for term creation.
-use Rattle.std.proofs.Common.{◌≡◌, ℕ, zero, suc, ◌+◌, ◌≤◌, ◌<◌, List, [], ◌∷◌, Bool, true, false, cond, Option, Some, None, is_some, is_none, length, Result, Ok, Err, refl, sym, ap, ◌∙◌, subst, IfOk, arith, le_refl, if◌then◌else◌}
+use Rattle.std.proofs.Common.{◌≡◌, ℕ, zero, suc, ◌+◌, ◌≤◌, ◌<◌, [], ◌∷◌, Bool, true, false, cond, Option, Some, None, is_some, is_none, length, Result, Ok, Err, refl, sym, ap, ◌∙◌, subst, IfOk, arith, le_refl, if◌then◌else◌}
 use Rattle.std.specs.Str.{bytes_eq}
 use Rattle.std.specs.List.{AllByRecursion}
 use Rattle.std.specs.BTreeMap.{is_at}

@@ -1,5 +1,5 @@
 -- The merge of an item's own entries with imported ones.
-use Rattle.std.proofs.Common.{◌≡◌, ℕ, List, [], ◌∷◌, Bool, true, false, cond, Option, Some, None, Ordering, Less, Equal, Greater, refl, sym, ap, ◌∙◌, subst}
+use Rattle.std.proofs.Common.{◌≡◌, [], ◌∷◌, Bool, true, false, cond, Option, Some, None, Ordering, Less, Equal, Greater, refl, sym, ap, ◌∙◌, subst}
 use Rattle.std.specs.Option.{option_or}
 use Rattle.std.specs.Ordering.{is_eq, ordering_reverse}
 use Rattle.std.specs.List.{AllByRecursion}
@@ -11,7 +11,7 @@ use Rattle.std.proofs.lemmas.Map.Lookups.{exact_bytes}
 use Rattle.ld_model.specs.Tree.{Tree, Pairs, byte_order, member_at, AreAscending, IsBefore}
 use Rattle.ctx_types.specs.Context.{Text}
 use Rattle.ctx_model.specs.Process.{merged}
-use Rattle.ctx_laws.specs.Laws.{IsMergeOf, ImportsGiveWay}
+use Rattle.ctx_laws.specs.Laws.{ImportsGiveWay}
 
 abbrev merged_by : Text × Tree → Pairs → Text × Tree → Pairs → Ordering → Pairs
 merged_by e es i is o = elim o [ Less ↦ e ∷ merged es (i ∷ is) | Equal ↦ e ∷ merged es is | Greater ↦ i ∷ merged (e ∷ es) is ]

@@ -1,28 +1,27 @@
 -- Protected terms keep their definitions.
-use Rattle.std.proofs.Common.{◌≡◌, ℕ, zero, suc, List, [], ◌∷◌, Bool, true, false, cond, not, ◌&&◌, ◌||◌, Option, Some, None, is_some, Result, Ok, Err, refl, sym, ap, ◌∙◌, subst, IfOk, codes, if◌then◌else◌}
-use Rattle.std.specs.List.{list_any, AllByRecursion}
+use Rattle.std.proofs.Common.{◌≡◌, ℕ, zero, suc, [], ◌∷◌, Bool, true, false, cond, not, ◌||◌, Option, Some, None, is_some, Result, Ok, Err, refl, sym, ap, ◌∙◌, subst, IfOk, codes, if◌then◌else◌}
+use Rattle.std.specs.List.{AllByRecursion}
 use Rattle.std.specs.Str.{bytes_eq}
-use Rattle.std.specs.Map.{lookup}
 use Rattle.std.specs.BTreeMap.{is_at}
 use Rattle.ld_model.specs.Tree.{Tree, null, truth, whole, one_one, text, array, object, Pairs, member_at, byte_order}
 use Rattle.case_tables.specs.declared.code.Code.{Code}
-use Rattle.case_tables.specs.declared.code.Code.TheVariants.{CyclicIriMapping, InvalidContextNullification, InvalidIriMapping, InvalidKeywordAlias, InvalidTermDefinition, KeywordRedefinition, ProtectedTermRedefinition}
+use Rattle.case_tables.specs.declared.code.Code.TheVariants.{CyclicIriMapping, InvalidContextNullification, InvalidIriMapping, InvalidKeywordAlias, InvalidTermDefinition, ProtectedTermRedefinition}
 use Rattle.ctx_types.specs.Context.{Text, Definition, Terms, Settings, Context, definition_at, has_protected}
 use Rattle.ctx_types.specs.Expansion.{is_keyword, has_keyword_form, colon_parts, is_whole, expand_iri}
 use Rattle.ctx_types.specs.Same.{same_but_protected}
 use Rattle.ctx_store.specs.Stored.{Contexts}
 use Rattle.ctx_model.specs.Outcome.{◌>>=◌, unless}
 use Rattle.ctx_model.specs.Words.{is_iri, is_iri_or_blank, is_some_keyword, same_text, has_slash}
-use Rattle.ctx_model.specs.State.{State, Local, Create, Scoped, mark_of, mark, stored}
+use Rattle.ctx_model.specs.State.{State, Local, Create, Scoped, mark_of, mark}
 use Rattle.ctx_model.specs.LocalExpansion.{created}
-use Rattle.ctx_model.specs.Definition.{entries_of, is_definition, is_simple, may_define_type, protected_by, Mapping, maps, leaves_out, mapped_by_prefix, by_path, by_vocabulary, without_colon, completed, kept, finished}
-use Rattle.ctx_model.specs.Creation.{Start, over, goes_on, removed, allowed, started, other_id, is_reserved, expanded, kind_of, agreeing, id_named, id_mapping, colon_mapping, with_state, parts_mapping, term_mapping, mapping_of, mapping_for, forward_created, directed, defined_by, gone_on, create_new, unless_defined, create_within}
-use Rattle.ctx_model.specs.Process.{Ask, items_of, nullified, loaded, process_within, process}
-use Rattle.ctx_laws.specs.Statements.{is_reserved_id, returns_early, EntryHeeds, ItemHas, AllHave, AllHeed}
+use Rattle.ctx_model.specs.Definition.{entries_of, is_definition, is_simple, may_define_type, protected_by, Mapping, maps, leaves_out, mapped_by_prefix, by_vocabulary, without_colon, completed, kept, finished}
+use Rattle.ctx_model.specs.Creation.{Start, over, goes_on, removed, allowed, started, other_id, is_reserved, expanded, kind_of, agreeing, id_named, id_mapping, with_state, parts_mapping, term_mapping, mapping_of, mapping_for, forward_created, directed, defined_by, gone_on, create_new, unless_defined, create_within}
+use Rattle.ctx_model.specs.Process.{loaded, process_within, process}
+use Rattle.ctx_laws.specs.Statements.{is_reserved_id, returns_early, EntryHeeds, AllHave}
 use Rattle.ctx_laws.specs.Laws.{ProtectedTermsStay}
-use Rattle.ctx_laws.proofs.Lookups.{at_inserted, at_other, at_left, at-exact, bytes_eq-exact, bytes_eq-refl}
-use Rattle.ctx_laws.proofs.Agreement.{itself, Agree, Bears, create_agrees}
-use Rattle.ctx_laws.proofs.Keeping.{after, after_any, if_cond, HasTermsOf, Kept, process_keeps}
+use Rattle.ctx_laws.proofs.Lookups.{at_inserted, at_other, at_left, at-exact, bytes_eq-exact}
+use Rattle.ctx_laws.proofs.Agreement.{Bears, create_agrees}
+use Rattle.ctx_laws.proofs.Keeping.{after, after_any, if_cond, Kept, process_keeps}
 
 neither : (a b : Bool) → (a || b) ≡ false → (a ≡ false) × (b ≡ false)
 neither true b h = absurd (cc)

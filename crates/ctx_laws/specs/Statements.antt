@@ -1,8 +1,8 @@
 -- Words in which the laws of context processing are stated.
-use Rattle.std.specs.Prelude.{◌≡◌, ℕ, ◌+◌, is_none, is_some, codes, Bool, true, false, not, ◌&&◌, ◌||◌, List, [], ◌∷◌, Option, Some, None, Result, Ok, if◌then◌else◌}
+use Rattle.std.specs.Prelude.{◌≡◌, ℕ, ◌+◌, is_none, is_some, codes, Bool, true, false, not, ◌&&◌, ◌||◌, List, [], ◌∷◌, Option, Some, Ok, if◌then◌else◌}
 use Rattle.std.specs.List.{list_any, AllByRecursion}
 use Rattle.std.specs.Str.{bytes_eq}
-use Rattle.ld_model.specs.Tree.{Tree, Pairs, null, truth, whole, one_one, text, array, object, no_trees, trees_of, no_members, member_list, member_at, is_empty}
+use Rattle.ld_model.specs.Tree.{Tree, Pairs, null, text, array, object, no_trees, trees_of, no_members, member_list, member_at, is_empty}
 use Rattle.ctx_types.specs.Context.{Text, Context, Settings, has_protected, initial}
 use Rattle.ctx_store.specs.Stored.{Contexts}
 use Rattle.ctx_model.specs.State.{State, mark_of}
@@ -80,6 +80,15 @@ ItemHas E _ = Unit {0}
 -- So is each entry of each item of the local context.
 abbrev pub AllHave : (Text × Tree → Type 0) → Tree → Type 0
 AllHave E local = AllByRecursion (ItemHas E) (items_of local)
+
+-- The item is a text, the IRI of a context.
+abbrev pub is_text : Tree → Bool
+is_text (text t) = true
+is_text _ = false
+
+-- No item overrides protected terms: each is the IRI of a context, which never does, or the call does not say that it may.
+abbrev pub NoneOverrides : Ask → Tree → Type 0
+NoneOverrides ask local = AllByRecursion (λ t. is_text t ≡ false → ask.overrides ≡ false) (items_of local)
 
 -- In no item of the local context, and in none of a context that the store gives, does term creation return early for the term.
 pub record AllHeed (store : Contexts) (t : Text) (local : Tree) : Type 0 where

@@ -43,23 +43,23 @@ pub fn items_go_in_turn()
 /// The number by which the definition of term creation ends its recursion has no say in the outcome (section 4.2.2). For a term
 /// that is a key of the local context, any number from that of the keys of which `defined` says nothing yet gives the same; and
 /// for all entries of a local context, one after another, any number from theirs, which is the one that context processing
-/// takes. So no `cyclic IRI mapping` is for want of a greater number: each one is a cycle, found by step 1.
+/// takes. So no `cyclic IRI mapping` (step 1) would go away with a greater number.
 pub fn keys_are_enough()
     ensures { KeysAreEnough }
 {}
 
 /// A protected term of the active context keeps its definition, and stays protected, whatever local context is processed: null
 /// is refused, and so is a definition that differs in more than protection (section 4.1.2, step 5.1.1, and section 4.2.2, step
-/// 27). This holds of items of an array, of imports, and of contexts behind an IRI, which never override. Scoped contexts are
-/// only tried, and change nothing.
+/// 27). This holds of the items of an array, of imports, and of contexts behind an IRI. Scoped contexts are only tried, and
+/// change nothing.
 ///
-/// These are all the cases in which it may not keep it. Protected terms may be overridden: the call says so, as it does for the
-/// scoped context of a property. Or an item has for the term a value for which term creation returns before it looks at
-/// protection: one with a `@reverse` (step 13), which makes the term a reverse property, or leaves it without a definition where
-/// the value of `@reverse` is in the form of a keyword; or one whose `@id` is in the form of a keyword and none (step 14.2.2),
-/// which leaves it without a definition. The law asks this of the local context and of every context that the store gives. And it
-/// is a law of the terms of the context that was handed in: a term that an earlier item of the same array protects is lost to a
-/// null behind it.
+/// These are all the cases in which it may not keep it. The call says that protected terms may be overridden, as it does for the
+/// scoped context of a property, and an item is null or a map: a context behind an IRI keeps protected terms even then. Or an
+/// item has for the term a value for which term creation returns before it looks at protection: one with a `@reverse` (step 13),
+/// which makes the term a reverse property, or leaves it without a definition where the value of `@reverse` is in the form of a
+/// keyword; or one whose `@id` is in the form of a keyword and none (step 14.2.2), which leaves it without a definition. The law
+/// asks this of the local context and of every context that the store gives. And it is a law of the terms of the context that was
+/// handed in: a term that an earlier item of the same array protects may be lost to a null behind it.
 pub fn protected_terms_stay()
     ensures { ProtectedTermsStay }
 {}
