@@ -4,6 +4,7 @@ use Rattle.std.specs.List.{AllByRecursion}
 use Rattle.std.specs.Str.{bytes_eq}
 use Rattle.std.specs.BTreeMap.{is_at}
 use Rattle.ld_model.specs.Tree.{Tree, null, truth, whole, one_one, text, array, object, Pairs, member_at, byte_order}
+use Rattle.ld_model.proofs.Puts.{bytes_eq-exact}
 use Rattle.case_tables.specs.declared.code.Code.{Code}
 use Rattle.case_tables.specs.declared.code.Code.TheVariants.{CyclicIriMapping, InvalidContextNullification, InvalidIriMapping, InvalidKeywordAlias, InvalidTermDefinition, ProtectedTermRedefinition}
 use Rattle.ctx_types.specs.Context.{Text, Definition, Terms, Settings, Context, definition_at, has_protected}
@@ -19,7 +20,7 @@ use Rattle.ctx_model.specs.Creation.{Start, over, goes_on, removed, allowed, sta
 use Rattle.ctx_model.specs.Process.{loaded, process_within, process}
 use Rattle.ctx_laws.specs.Statements.{is_reserved_id, returns_early, EntryHeeds, AllHave}
 use Rattle.ctx_laws.specs.Laws.{ProtectedTermsStay}
-use Rattle.ctx_laws.proofs.Lookups.{at_inserted, at_other, at_left, at-exact, bytes_eq-exact}
+use Rattle.ctx_laws.proofs.Lookups.{at_inserted, at_other, at_left, at-exact}
 use Rattle.ctx_laws.proofs.Agreement.{Bears, create_agrees}
 use Rattle.ctx_laws.proofs.Keeping.{after, after_any, if_cond, Kept, process_keeps}
 
