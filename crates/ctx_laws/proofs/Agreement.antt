@@ -1,18 +1,18 @@
 -- Term creation with two ways of creating the terms that it needs on the way. Where both come to the same, and keep what
 -- is known of the state, so does the creation of a term.
-use Rattle.std.proofs.Common.{◌≡◌, ℕ, List, [], ◌∷◌, Bool, true, false, cond, not, ◌&&◌, ◌||◌, Option, Some, None, Result, Ok, Err, refl, sym, ap, ◌∙◌, subst, codes, is_some, IfOk}
+use Rattle.std.proofs.Common.{◌≡◌, [], Bool, true, false, cond, not, ◌||◌, Option, Some, None, Result, Ok, Err, refl, ap, ◌∙◌, codes, IfOk}
 use Rattle.std.specs.Str.{bytes_eq}
 use Rattle.ld_model.specs.Tree.{Tree, null, truth, whole, one_one, text, array, object, Pairs, member_at}
 use Rattle.case_tables.specs.declared.code.Code.{Code}
-use Rattle.case_tables.specs.declared.code.Code.TheVariants.{InvalidIriMapping, InvalidKeywordAlias, InvalidReverseProperty, InvalidTermDefinition, InvalidTypeMapping, KeywordRedefinition}
-use Rattle.ctx_types.specs.Context.{Text, Definition, Settings, definition_at}
-use Rattle.ctx_types.specs.Expansion.{is_keyword, has_keyword_form, by_definition, colon_parts, is_whole, as_iri}
+use Rattle.case_tables.specs.declared.code.Code.TheVariants.{InvalidIriMapping, InvalidKeywordAlias, InvalidReverseProperty, InvalidTermDefinition, InvalidTypeMapping}
+use Rattle.ctx_types.specs.Context.{Text, Definition, definition_at}
+use Rattle.ctx_types.specs.Expansion.{is_keyword, has_keyword_form, by_definition, colon_parts, is_whole}
 use Rattle.ctx_model.specs.Outcome.{◌>>=◌, unless}
 use Rattle.ctx_model.specs.Words.{is_iri_or_blank, is_some_keyword, same_text}
 use Rattle.ctx_model.specs.State.{State, Local, Create, Scoped, mark_of, is_undone, mark, stored, without_term}
 use Rattle.ctx_model.specs.LocalExpansion.{created, prefix_created, expand_rest, expand_text, expand_iri}
-use Rattle.ctx_model.specs.Definition.{may_define_type, entries_of, is_definition, is_simple, protected_by, may_be_kind, reverse_container, can_be_prefix, Mapping, maps, leaves_out, mapped_by_prefix, without_colon, reverse_definition, completed, kept, finished}
-use Rattle.ctx_model.specs.Creation.{Start, over, goes_on, removed, allowed, started, other_id, is_reverse_alone, is_reserved, is_compared, expanded, kind_named, kind_valued, kind_of, reverse_named, reverse_valued, reverse_created, own_agrees, agreeing, id_named, id_mapping, colon_mapping, with_state, parts_mapping, term_mapping, mapping_of, mapping_for, forward_created, directed, defined_by, gone_on, create_new}
+use Rattle.ctx_model.specs.Definition.{may_define_type, entries_of, is_definition, is_simple, protected_by, may_be_kind, reverse_container, Mapping, maps, leaves_out, without_colon, reverse_definition, completed, kept, finished}
+use Rattle.ctx_model.specs.Creation.{Start, over, goes_on, removed, allowed, started, other_id, is_reverse_alone, is_reserved, is_compared, kind_named, kind_valued, kind_of, reverse_named, reverse_valued, reverse_created, own_agrees, agreeing, id_named, id_mapping, colon_mapping, with_state, parts_mapping, term_mapping, mapping_of, forward_created, directed, defined_by, gone_on, create_new}
 
 -- the state of an outcome
 abbrev pub itself : State → State

@@ -1,9 +1,10 @@
 -- The number of keys is enough for term creation.
-use Rattle.std.proofs.Common.{◌≡◌, ℕ, zero, suc, ◌+◌, ◌≤◌, ◌<◌, List, [], ◌∷◌, Bool, true, false, cond, Option, Some, None, is_some, is_none, length, Result, Ok, Err, refl, sym, ap, ◌∙◌, subst, IfOk, arith, le_refl, if◌then◌else◌}
+use Rattle.std.proofs.Common.{◌≡◌, ℕ, zero, suc, ◌+◌, ◌≤◌, ◌<◌, [], ◌∷◌, Bool, true, false, cond, Option, Some, None, is_some, is_none, length, Result, Ok, Err, refl, sym, ap, ◌∙◌, subst, IfOk, arith, le_refl, if◌then◌else◌}
 use Rattle.std.specs.Str.{bytes_eq}
 use Rattle.std.specs.List.{AllByRecursion}
 use Rattle.std.specs.BTreeMap.{is_at}
 use Rattle.ld_model.specs.Tree.{Tree, Pairs, byte_order, member_at}
+use Rattle.ld_model.proofs.Puts.{bytes_eq-exact}
 use Rattle.case_tables.specs.declared.code.Code.{Code}
 use Rattle.case_tables.specs.declared.code.Code.TheVariants.{CyclicIriMapping}
 use Rattle.ctx_types.specs.Context.{Text, Context}
@@ -13,7 +14,7 @@ use Rattle.ctx_model.specs.Creation.{create_new, unless_defined, create_within}
 use Rattle.ctx_model.specs.Process.{is_term_key, entry_created, terms_created}
 use Rattle.ctx_laws.specs.Statements.{untouched}
 use Rattle.ctx_laws.specs.Laws.{KeysAreEnough}
-use Rattle.ctx_laws.proofs.Lookups.{at_inserted, at_other, bytes_eq-exact, at-is, at-self}
+use Rattle.ctx_laws.proofs.Lookups.{at_inserted, at_other, at-is, at-self}
 use Rattle.ctx_laws.proofs.Agreement.{itself, Agree, Bears, create_agrees}
 
 -- one where the key is untouched

@@ -2,9 +2,6 @@
 -- so all local contexts that are processed for the sake of one.
 use Rattle.std.proofs.Common.{◌≡◌, ℕ, zero, suc, List, [], ◌∷◌, Bool, true, false, not, ◌&&◌, ◌||◌, Option, Some, None, Result, Ok, Err, refl, codes, length, IfOk, is_none, if◌then◌else◌}
 use Rattle.std.specs.List.{AllByRecursion}
-use Rattle.std.specs.Option.{option_map_or}
-use Rattle.ld_model.specs.Iri.{has_scheme}
-use Rattle.iri_ref.specs.Resolve.{resolved}
 use Rattle.ld_model.specs.Tree.{Tree, null, truth, whole, one_one, text, array, object, Pairs, member_list, member_at, is_empty}
 use Rattle.case_tables.specs.declared.code.Code.{Code}
 use Rattle.case_tables.specs.declared.code.Code.TheVariants.{InvalidContextEntry, InvalidPropagateValue, InvalidVersionValue}
@@ -16,7 +13,8 @@ use Rattle.ctx_model.specs.Words.{among, is_iri_or_blank, is_absent_or_truth}
 use Rattle.ctx_model.specs.State.{State, Local, Scoped}
 use Rattle.ctx_model.specs.Definition.{side_named}
 use Rattle.ctx_model.specs.Creation.{create_within}
-use Rattle.ctx_model.specs.Process.{Ask, Process, Remote, propagates_in, with_previous, items_of, nullified, resolved_by, loaded, imported, importable, without_import, merged, is_known_version, new_base, based_by, based_on, based, vocab_named, vocab_set, language_set, side_set, settings_taken, is_term_key, entry_created, terms_created, local_of, scoped_ask, remote_ask, remote_taken, terms_taken, map_taken, item_taken, items_taken, processed, overflows, goes_into, too_deep, scoped_within, process_within}
+use Rattle.ctx_model.specs.Process.{Ask, Process, Remote, propagates_in, with_previous, items_of, nullified, resolved_by, loaded, imported, importable, merged, is_known_version, new_base, based, vocab_set, language_set, side_set, settings_taken, is_term_key, terms_created, local_of, scoped_ask, remote_ask, remote_taken, terms_taken, map_taken, item_taken, items_taken, processed, goes_into, process_within}
+use Rattle.ctx_laws.specs.Statements.{ItemHas, is_text}
 use Rattle.ctx_laws.proofs.Merging.{entries_merged}
 
 -- a step that goes on from a value of which Q holds
@@ -95,11 +93,6 @@ previous_keeps propagates c = by (propagates || not (is_empty c.earlier))
     by true = has_own c
     by false = record { terms = refl; original = refl }
 
--- Each entry of an item that is a map has the property.
-abbrev pub ItemHas : (Text × Tree → Type 0) → Tree → Type 0
-ItemHas E (object ms) = AllByRecursion E (member_list ms)
-ItemHas E _ = Unit {0}
-
 module _ (store : Contexts) (K : Context → Type 0) (C : Bool → Type 0) (E : Text × Tree → Type 0) where
   pub record Kept : Type 0 where
     pub same : (c d : Context) → HasTermsOf c d → K c → K d
@@ -170,31 +163,43 @@ module _ (store : Contexts) (K : Context → Type 0) (C : Bool → Type 0) (E : 
         by true = k
         by false = r (remote_ask ask iri c) iri kept.never k
 
-    item_keeps : (remote : Remote) (scoped : Process) → RemoteKeeps remote → (propagates : Bool) (ask : Ask) (t : Tree) (c : Context) → C ask.overrides → K ask.active → ItemHas E t → K c → IfOk (item_taken store remote scoped propagates ask t c) K
+    -- Where an item is no text, the call is of the kind.
+    abbrev pub Calls : Ask → Tree → Type 0
+    Calls ask t = is_text t ≡ false → C ask.overrides
+
+    item_keeps : (remote : Remote) (scoped : Process) → RemoteKeeps remote → (propagates : Bool) (ask : Ask) (t : Tree) (c : Context) → Calls ask t → K ask.active → ItemHas E t → K c → IfOk (item_taken store remote scoped propagates ask t c) K
     unfolding item_taken
-    item_keeps remote scoped r propagates ask null c o a has k = kept.nulls propagates ask c o a
+    item_keeps remote scoped r propagates ask null c o a has k = kept.nulls propagates ask c (o refl) a
     item_keeps remote scoped r propagates ask (text t) c o a has k = remote_keeps remote r ask (resolved_by ask.base t) c k
-    item_keeps remote scoped r propagates ask (object ms) c o a has k = map_keeps scoped ask (member_list ms) c o has k
+    item_keeps remote scoped r propagates ask (object ms) c o a has k = map_keeps scoped ask (member_list ms) c (o refl) has k
     item_keeps remote scoped r propagates ask (truth b) c o a has k = tt
     item_keeps remote scoped r propagates ask (whole n) c o a has k = tt
     item_keeps remote scoped r propagates ask one_one c o a has k = tt
     item_keeps remote scoped r propagates ask (array ts) c o a has k = tt
 
-    items_keep : (remote : Remote) (scoped : Process) → RemoteKeeps remote → (propagates : Bool) (ask : Ask) (ts : List Tree) (c : Context) → C ask.overrides → K ask.active → AllByRecursion (ItemHas E) ts → K c → IfOk (items_taken store remote scoped propagates ask ts c) K
+    items_keep : (remote : Remote) (scoped : Process) → RemoteKeeps remote → (propagates : Bool) (ask : Ask) (ts : List Tree) (c : Context) → AllByRecursion (Calls ask) ts → K ask.active → AllByRecursion (ItemHas E) ts → K c → IfOk (items_taken store remote scoped propagates ask ts c) K
     items_keep remote scoped r propagates ask [] c o a all k = k
     items_keep remote scoped r propagates ask (t ∷ ts) c o a all k =
-        after K K _ _ (item_keeps remote scoped r propagates ask t c o a all.0 k) (λ c₁ k₁. items_keep remote scoped r propagates ask ts c₁ o a all.1 k₁)
+        after K K _ _ (item_keeps remote scoped r propagates ask t c o.0 a all.0 k) (λ c₁ k₁. items_keep remote scoped r propagates ask ts c₁ o.1 a all.1 k₁)
 
-    processed_keeps : (remote : Remote) (scoped : Process) → RemoteKeeps remote → (ask : Ask) (local : Tree) → C ask.overrides → K ask.active → AllByRecursion (ItemHas E) (items_of local) → IfOk (processed store remote scoped ask local) K
+    -- What keeps it, as a whole.
+    abbrev pub ProcessKeeps : Process → Type 0
+    ProcessKeeps process = (ask : Ask) (local : Tree) → AllByRecursion (Calls ask) (items_of local) → K ask.active → AllByRecursion (ItemHas E) (items_of local) → IfOk (process ask local) K
+
+    processed_keeps : (remote : Remote) (scoped : Process) → RemoteKeeps remote → ProcessKeeps (processed store remote scoped)
     unfolding processed
     processed_keeps remote scoped r ask local o a all =
         let propagates = propagates_in ask.propagates local in
         items_keep remote scoped r propagates ask (items_of local) (with_previous propagates ask.active) o a all (kept.same ask.active (with_previous propagates ask.active) (previous_keeps propagates ask.active) a)
 
-    into_keeps : (process : Process) → ((ask : Ask) (local : Tree) → C ask.overrides → K ask.active → AllByRecursion (ItemHas E) (items_of local) → IfOk (process ask local) K) → RemoteKeeps (goes_into store process)
-    into_keeps process keeps ask iri o a = after_it K (loaded store iri) _ (λ t is. keeps ask t o a (kept.loads iri t is))
+    all_call : (ask : Ask) (ts : List Tree) → C ask.overrides → AllByRecursion (Calls ask) ts
+    all_call ask [] o = tt
+    all_call ask (t ∷ ts) o = (λ _. o, all_call ask ts o)
 
-    pub process_keeps : (r s : ℕ) (ask : Ask) (local : Tree) → C ask.overrides → K ask.active → AllByRecursion (ItemHas E) (items_of local) → IfOk (process_within store r s ask local) K
+    into_keeps : (process : Process) → ProcessKeeps process → RemoteKeeps (goes_into store process)
+    into_keeps process keeps ask iri o a = after_it K (loaded store iri) _ (λ t is. keeps ask t (all_call ask (items_of t) o) a (kept.loads iri t is))
+
+    pub process_keeps : (r s : ℕ) → ProcessKeeps (λ ask local. process_within store r s ask local)
     process_keeps zero zero ask local o a all = processed_keeps _ _ (λ ask iri o a. tt) ask local o a all
     process_keeps zero (suc s) ask local o a all = processed_keeps _ _ (λ ask iri o a. tt) ask local o a all
     process_keeps (suc r) zero ask local o a all = processed_keeps _ _ (into_keeps _ (λ ask local o a all. process_keeps r zero ask local o a all)) ask local o a all

@@ -1,3 +1,4 @@
+mod Examples
 pub mod Merging
 pub mod Nothing
 pub mod Agreement
@@ -6,3 +7,4 @@ pub mod Keeping
 pub mod Original
 pub mod Turns
 pub mod Fuel
+pub mod Protection

@@ -1,20 +1,14 @@
 -- What stands at a key, after an entry is put in or taken out. No order of the entries is needed.
-use Rattle.std.proofs.Common.{◌≡◌, ℕ, List, [], ◌∷◌, Bool, true, false, cond, Option, Some, None, Ordering, Less, Equal, Greater, refl, sym, ap, ◌∙◌, subst}
+use Rattle.std.proofs.Common.{◌≡◌, List, [], ◌∷◌, Bool, true, false, cond, Some, Ordering, Less, Equal, Greater, refl, sym, ap, ◌∙◌, subst}
 use Rattle.std.specs.Ordering.{is_eq, match_ordering}
 use Rattle.std.specs.Str.{bytes_eq}
 use Rattle.std.specs.Map.{lookup, remove_entry}
 use Rattle.std.specs.BTreeMap.{is_at, insert_entry}
 use Rattle.std.proofs.lemmas.Map.Lookups.{exact_bytes}
 use Rattle.std.proofs.lemmas.Map.Text.{is_eq-slice_cmp}
-use Rattle.std.proofs.lemmas.Slice.Eq.{bytes_eq-Decides}
 use Rattle.ld_model.specs.Tree.{byte_order}
+use Rattle.ld_model.proofs.Puts.{bytes_eq-refl, bytes_eq-exact}
 use Rattle.ctx_types.specs.Context.{Text}
-
-pub bytes_eq-refl : (a : Text) → bytes_eq a a ≡ true
-bytes_eq-refl a = (bytes_eq-Decides a a).1 refl
-
-pub bytes_eq-exact : (a b : Text) → bytes_eq a b ≡ true → a ≡ b
-bytes_eq-exact a b same = (bytes_eq-Decides a b).0 same
 
 pub at-is : (a b : Text) → is_at (byte_order a) b ≡ bytes_eq a b
 at-is a b = is_eq-slice_cmp a b

@@ -1,17 +1,18 @@
 -- The merge of an item's own entries with imported ones.
-use Rattle.std.proofs.Common.{◌≡◌, ℕ, List, [], ◌∷◌, Bool, true, false, cond, Option, Some, None, Ordering, Less, Equal, Greater, refl, sym, ap, ◌∙◌, subst}
+use Rattle.std.proofs.Common.{◌≡◌, [], ◌∷◌, Bool, true, false, cond, Option, Some, None, Ordering, Less, Equal, Greater, refl, sym, ap, ◌∙◌, subst}
 use Rattle.std.specs.Option.{option_or}
-use Rattle.std.specs.Ordering.{is_eq, ordering_reverse}
+use Rattle.std.specs.Ordering.{ordering_reverse}
 use Rattle.std.specs.List.{AllByRecursion}
-use Rattle.std.specs.List.Sorted.{IsStrictlySortedBy}
 use Rattle.std.specs.Map.{keys_of}
 use Rattle.std.specs.BTreeMap.{is_at}
 use Rattle.std.proofs.lemmas.Cmp.{nat_list_cmp_total}
 use Rattle.std.proofs.lemmas.Map.Lookups.{exact_bytes}
 use Rattle.ld_model.specs.Tree.{Tree, Pairs, byte_order, member_at, AreAscending, IsBefore}
+use Rattle.ld_model.proofs.Puts.{all_after, ascending_cons, ascending_head, ascending_tail}
 use Rattle.ctx_types.specs.Context.{Text}
 use Rattle.ctx_model.specs.Process.{merged}
-use Rattle.ctx_laws.specs.Laws.{IsMergeOf, ImportsGiveWay}
+use Rattle.ctx_laws.specs.Laws.{ImportsGiveWay}
+use Rattle.ctx_laws.proofs.Lookups.{at-exact}
 
 abbrev merged_by : Text × Tree → Pairs → Text × Tree → Pairs → Ordering → Pairs
 merged_by e es i is o = elim o [ Less ↦ e ∷ merged es (i ∷ is) | Equal ↦ e ∷ merged es is | Greater ↦ i ∷ merged (e ∷ es) is ]
@@ -27,27 +28,6 @@ none_before k x (e ∷ es) less all = rw (nat_list_cmp_total.trans k x e.0 less 
 
 same_key : (k a b : Text) → byte_order a b ≡ Equal → is_at (byte_order k) a ≡ is_at (byte_order k) b
 same_key k a b same = ap (is_at (byte_order k)) (exact_bytes a b same)
-
-is_equal : (o : Ordering) → is_eq o ≡ true → o ≡ Equal
-is_equal Less is = absurd (cc)
-is_equal Equal is = refl
-is_equal Greater is = absurd (cc)
-
-sorted_head : (e : Text × Tree) (es : Pairs) → AreAscending (e ∷ es) → AllByRecursion (IsBefore e.0) (keys_of es)
-unfolding IsStrictlySortedBy
-sorted_head e es sorted = sorted.0
-
-sorted_tail : (e : Text × Tree) (es : Pairs) → AreAscending (e ∷ es) → AreAscending es
-unfolding IsStrictlySortedBy
-sorted_tail e es sorted = sorted.1
-
-sorted_cons : (e : Text × Tree) (es : Pairs) → AllByRecursion (IsBefore e.0) (keys_of es) → AreAscending es → AreAscending (e ∷ es)
-unfolding IsStrictlySortedBy
-sorted_cons e es all sorted = (all, sorted)
-
-all_later : (k x : Text) (es : Pairs) → byte_order k x ≡ Less → AllByRecursion (IsBefore x) (keys_of es) → AllByRecursion (IsBefore k) (keys_of es)
-all_later k x [] less all = tt
-all_later k x (e ∷ es) less all = (nat_list_cmp_total.trans k x e.0 less all.0, all_later k x es less all.1)
 
 -- what is true of all keys of both is true of those of the merge
 all_merged : (P : Text → Type 0) (own imports : Pairs) → AllByRecursion P (keys_of own) → AllByRecursion P (keys_of imports) → AllByRecursion P (keys_of (merged own imports))
@@ -78,28 +58,28 @@ entries_merged P (e ∷ es) imports a b = inner (λ is b. entries_merged P es is
 
 merge_ascends : (own imports : Pairs) → AreAscending own → AreAscending imports → AreAscending (merged own imports)
 merge_ascends [] imports a b = b
-merge_ascends (e ∷ es) imports a b = inner (λ is b. merge_ascends es is (sorted_tail e es a) b) imports b
+merge_ascends (e ∷ es) imports a b = inner (λ is b. merge_ascends es is (ascending_tail e es a) b) imports b
   where
     inner : ((is : Pairs) → AreAscending is → AreAscending (merged es is)) → (is : Pairs) → AreAscending is → AreAscending (merged (e ∷ es) is)
-    inner rest [] b = sorted_cons e (merged es []) (all_merged (IsBefore e.0) es [] (sorted_head e es a) tt) (rest [] b)
-    inner rest (i ∷ is) b = step (byte_order e.0 i.0) refl (inner rest is (sorted_tail i is b))
+    inner rest [] b = ascending_cons e (merged es []) (all_merged (IsBefore e.0) es [] (ascending_head e es a) tt) (rest [] b)
+    inner rest (i ∷ is) b = step (byte_order e.0 i.0) refl (inner rest is (ascending_tail i is b))
       where
         step : (o : Ordering) → byte_order e.0 i.0 ≡ o → AreAscending (merged (e ∷ es) is) → AreAscending (merged (e ∷ es) (i ∷ is))
         step Less h next =
-            let behind : AllByRecursion (IsBefore e.0) (keys_of (i ∷ is)) = (h, all_later e.0 i.0 is h (sorted_head i is b)) in
-            subst AreAscending (sym (merged_step e es i is Less h)) (sorted_cons e (merged es (i ∷ is)) (all_merged (IsBefore e.0) es (i ∷ is) (sorted_head e es a) behind) (rest (i ∷ is) b))
+            let behind : AllByRecursion (IsBefore e.0) (keys_of (i ∷ is)) = (h, all_after e.0 i.0 is h (ascending_head i is b)) in
+            subst AreAscending (sym (merged_step e es i is Less h)) (ascending_cons e (merged es (i ∷ is)) (all_merged (IsBefore e.0) es (i ∷ is) (ascending_head e es a) behind) (rest (i ∷ is) b))
         step Equal h next =
-            let behind : AllByRecursion (IsBefore e.0) (keys_of is) = subst (λ x. AllByRecursion (IsBefore x) (keys_of is)) (sym (exact_bytes e.0 i.0 h)) (sorted_head i is b) in
-            subst AreAscending (sym (merged_step e es i is Equal h)) (sorted_cons e (merged es is) (all_merged (IsBefore e.0) es is (sorted_head e es a) behind) (rest is (sorted_tail i is b)))
+            let behind : AllByRecursion (IsBefore e.0) (keys_of is) = subst (λ x. AllByRecursion (IsBefore x) (keys_of is)) (sym (exact_bytes e.0 i.0 h)) (ascending_head i is b) in
+            subst AreAscending (sym (merged_step e es i is Equal h)) (ascending_cons e (merged es is) (all_merged (IsBefore e.0) es is (ascending_head e es a) behind) (rest is (ascending_tail i is b)))
         step Greater h next =
             let before : byte_order i.0 e.0 ≡ Less = nat_list_cmp_total.antisymm i.0 e.0 ∙ ap ordering_reverse h in
-            let behind : AllByRecursion (IsBefore i.0) (keys_of (e ∷ es)) = (before, all_later i.0 e.0 es before (sorted_head e es a)) in
-            subst AreAscending (sym (merged_step e es i is Greater h)) (sorted_cons i (merged (e ∷ es) is) (all_merged (IsBefore i.0) (e ∷ es) is behind (sorted_head i is b)) next)
+            let behind : AllByRecursion (IsBefore i.0) (keys_of (e ∷ es)) = (before, all_after i.0 e.0 es before (ascending_head e es a)) in
+            subst AreAscending (sym (merged_step e es i is Greater h)) (ascending_cons i (merged (e ∷ es) is) (all_merged (IsBefore i.0) (e ∷ es) is behind (ascending_head i is b)) next)
 
 -- what stands at a key
 merge_at : (k : Text) (own imports : Pairs) → AreAscending own → member_at k (merged own imports) ≡ option_or (member_at k own) (member_at k imports)
 merge_at k [] imports a = refl
-merge_at k (e ∷ es) imports a = inner (λ is. merge_at k es is (sorted_tail e es a)) imports
+merge_at k (e ∷ es) imports a = inner (λ is. merge_at k es is (ascending_tail e es a)) imports
   where
     taken : (b : Bool) (m n : Option Tree) (o : Option Tree) → m ≡ option_or n o → cond b (Some e.1) m ≡ option_or (cond b (Some e.1) n) o
     taken true m n o h = refl
@@ -126,7 +106,7 @@ merge_at k (e ∷ es) imports a = inner (λ is. merge_at k es is (sorted_tail e 
         step Greater h next =
             let before : byte_order i.0 e.0 ≡ Less = nat_list_cmp_total.antisymm i.0 e.0 ∙ ap ordering_reverse h in
             let none : is_at (byte_order k) i.0 ≡ true → member_at k (e ∷ es) ≡ None =
-            λ same. let less : byte_order k e.0 ≡ Less = subst (λ x. byte_order x e.0 ≡ Less) (sym (exact_bytes k i.0 (is_equal (byte_order k i.0) same))) before in rw less (none_before k e.0 es less (sorted_head e es a)) in
+            λ same. let less : byte_order k e.0 ≡ Less = subst (λ x. byte_order x e.0 ≡ Less) (sym (at-exact k i.0 same)) before in rw less (none_before k e.0 es less (ascending_head e es a)) in
             ap (member_at k) (merged_step e es i is Greater h) ∙ given (is_at (byte_order k) i.0) i.1 (member_at k (merged (e ∷ es) is)) (member_at k (e ∷ es)) (member_at k is) none next
 
 pub imports_give_way : ImportsGiveWay

@@ -1,6 +1,6 @@
 -- An empty map and an empty array.
-use Rattle.std.proofs.Common.{◌≡◌, List, [], ◌∷◌, Bool, true, false, Option, Some, None, Result, Ok, refl, ap}
-use Rattle.ld_model.specs.Tree.{Tree, array, object, no_trees, no_members}
+use Rattle.std.proofs.Common.{◌≡◌, List, [], ◌∷◌, Result, Ok, refl, ap}
+use Rattle.ld_model.specs.Tree.{Tree}
 use Rattle.case_tables.specs.declared.code.Code.{Code}
 use Rattle.ctx_types.specs.Context.{Text, Context}
 use Rattle.ctx_store.specs.Stored.{Contexts}

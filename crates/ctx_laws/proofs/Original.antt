@@ -1,17 +1,17 @@
 -- The original base URL stays as it is.
-use Rattle.std.proofs.Common.{◌≡◌, ℕ, zero, suc, List, [], ◌∷◌, Bool, true, false, not, ◌||◌, Option, Some, None, Result, Ok, Err, refl, IfOk, ◌∙◌}
+use Rattle.std.proofs.Common.{◌≡◌, ℕ, zero, suc, List, [], ◌∷◌, Bool, true, false, not, ◌||◌, Option, Some, None, Ok, Err, refl, IfOk, ◌∙◌}
 use Rattle.std.specs.List.{AllByRecursion}
 use Rattle.ld_model.specs.Tree.{Tree, null, truth, whole, one_one, text, array, object, Pairs, member_list}
-use Rattle.case_tables.specs.declared.code.Code.{Code}
 use Rattle.case_tables.specs.declared.code.Code.TheVariants.{CyclicIriMapping, InvalidContextNullification}
 use Rattle.ctx_types.specs.Context.{Text, Context, has_protected}
 use Rattle.ctx_store.specs.Stored.{Contexts}
 use Rattle.ctx_model.specs.Outcome.{unless}
 use Rattle.ctx_model.specs.State.{State, Local, Scoped, mark_of}
 use Rattle.ctx_model.specs.Creation.{create_new, unless_defined, create_within}
-use Rattle.ctx_model.specs.Process.{Ask, items_of, nullified, process_within}
-use Rattle.ctx_laws.proofs.Agreement.{itself, Agree, Bears, create_agrees}
-use Rattle.ctx_laws.proofs.Keeping.{after_any, HasTermsOf, ItemHas, Kept, process_keeps}
+use Rattle.ctx_model.specs.Process.{Ask, items_of, process_within}
+use Rattle.ctx_laws.specs.Statements.{ItemHas, is_text}
+use Rattle.ctx_laws.proofs.Agreement.{Bears, create_agrees}
+use Rattle.ctx_laws.proofs.Keeping.{after_any, Kept, process_keeps}
 
 module _ (base : Option Text) where
   abbrev Has : Context → Type 0
@@ -73,4 +73,8 @@ kept store base =
 
 pub original_stays : (store : Contexts) (r s : ℕ) (ask : Ask) (local : Tree) → IfOk (process_within store r s ask local) (λ c. c.current.original ≡ ask.active.current.original)
 original_stays store r s ask local =
-    process_keeps store (Has ask.active.current.original) Always Any (kept store ask.active.current.original) r s ask local tt refl (any_items (items_of local))
+    process_keeps store (Has ask.active.current.original) Always Any (kept store ask.active.current.original) r s ask local (always (items_of local)) refl (any_items (items_of local))
+  where
+    always : (ts : List Tree) → AllByRecursion (λ t. is_text t ≡ false → Unit {0}) ts
+    always [] = tt
+    always (t ∷ ts) = (λ _. tt, always ts)

@@ -1,10 +1,10 @@
 -- Null, and the items of an array one after another.
-use Rattle.std.proofs.Common.{◌≡◌, List, [], ◌∷◌, ◌++◌, Bool, true, false, cond, not, ◌&&◌, ◌||◌, Option, Some, None, Result, Ok, Err, refl, sym, ap, ◌∙◌, subst, IfOk, if◌then◌else◌}
+use Rattle.std.proofs.Common.{◌≡◌, List, [], ◌∷◌, ◌++◌, Bool, true, false, not, ◌&&◌, ◌||◌, Result, Ok, Err, refl, sym, ap, ◌∙◌, subst, IfOk, if◌then◌else◌}
 use Rattle.std.specs.List.{list_any}
-use Rattle.ld_model.specs.Tree.{Tree, null, truth, whole, one_one, text, array, object, Trees, trees_of, tree_list, tree_list-trees_of, is_empty}
+use Rattle.ld_model.specs.Tree.{Tree, null, truth, whole, one_one, text, array, object, trees_of, tree_list-trees_of, is_empty}
 use Rattle.case_tables.specs.declared.code.Code.{Code}
 use Rattle.case_tables.specs.declared.code.Code.TheVariants.{InvalidContextNullification}
-use Rattle.ctx_types.specs.Context.{Text, Context, Settings, has_protected, initial}
+use Rattle.ctx_types.specs.Context.{Context, Settings, has_protected, initial}
 use Rattle.ctx_store.specs.Stored.{Contexts}
 use Rattle.ctx_model.specs.Outcome.{◌>>=◌, unless}
 use Rattle.ctx_model.specs.Process.{Ask, Process, Remote, with_previous, propagates_in, nullified, remote_taken, terms_taken, map_taken, item_taken, items_taken, items_of, processed, process}

@@ -1,16 +1,15 @@
 -- The laws of context processing.
-use Rattle.std.specs.Prelude.{ℕ, ◌≡◌, ◌≤◌, is_some, length, List, [], ◌∷◌, ◌++◌, true, false, Result, Ok, Err, if◌then◌else◌}
+use Rattle.std.specs.Prelude.{ℕ, ◌≡◌, ◌≤◌, is_some, length, List, [], ◌∷◌, ◌++◌, true, Some, Ok, Err, if◌then◌else◌}
 use Rattle.std.specs.Option.{option_or}
 use Rattle.ld_model.specs.Tree.{Tree, null, array, trees_of, Pairs, member_at, AreAscending}
-use Rattle.case_tables.specs.declared.code.Code.{Code}
 use Rattle.case_tables.specs.declared.code.Code.TheVariants.{InvalidContextNullification}
-use Rattle.ctx_types.specs.Context.{Text, Context}
+use Rattle.ctx_types.specs.Context.{Text, Definition, Context, definition_at}
 use Rattle.ctx_store.specs.Stored.{Contexts}
 use Rattle.ctx_model.specs.State.{State, Local, Scoped}
 use Rattle.ctx_model.specs.Creation.{create_within}
 use Rattle.ctx_model.specs.Outcome.{◌>>=◌}
 use Rattle.ctx_model.specs.Process.{Ask, merged, with_previous, terms_created, process}
-use Rattle.ctx_laws.specs.Statements.{IsNothing, stands_against_null, anew, over, untouched, IsItem, MayBeParted}
+use Rattle.ctx_laws.specs.Statements.{IsNothing, stands_against_null, anew, over, untouched, NoneOverrides, AllHeed, IsItem, MayBeParted}
 
 -- The merge of an item's own entries with imported ones has at each key the own value, or else the imported one; and its keys
 -- ascend as theirs do.
@@ -40,3 +39,9 @@ pub record ItemsGoInTurn : Type 0 where
 pub record KeysAreEnough : Type 0 where
   pub term : (scoped : Scoped) (l : Local) (n more : ℕ) (t : Text) (v : Tree) (s : State) → is_some (member_at t l.entries) ≡ true → untouched l.entries s ≤ n → n ≤ more → create_within scoped l more t v s ≡ create_within scoped l n t v s
   pub entries : (scoped : Scoped) (l : Local) (more : ℕ) (s : State) → length l.entries ≤ more → terms_created (λ t v s. create_within scoped l more t v s) l.entries s ≡ terms_created (λ t v s. create_within scoped l (length l.entries) t v s) l.entries s
+
+-- Where no item overrides protected terms, a protected term of the active context has its definition in the outcome, too.
+-- It does so save where a local context that is processed makes the term a reverse property, or gives it an `@id` in the form of
+-- a keyword.
+abbrev pub ProtectedTermsStay : Type 0
+ProtectedTermsStay = (store : Contexts) (ask : Ask) (local : Tree) (t : Text) (d : Definition) (c : Context) → definition_at t ask.active.current.terms ≡ Some d → d.protected ≡ true → NoneOverrides ask local → AllHeed store t local → process store ask local ≡ Ok c → definition_at t c.current.terms ≡ Some d

@@ -9,7 +9,7 @@ use Rattle.std.specs.Prelude.{IfSome}
 use Rattle.case_tables.specs.Keyword.{keyword_name}
 use Rattle.case_tables.specs.declared.keyword.Keyword.{Keyword}
 use Rattle.case_tables.specs.declared.keyword.Keyword.TheVariants.{Base}
-use Rattle.flatten_laws.proofs.Puts.{bytes_eq-exact}
+use Rattle.ld_model.proofs.Puts.{bytes_eq-exact}
 use Rattle.ctx_types.specs.Context.{Text}
 use Rattle.ctx_types.specs.Expansion.{is_keyword, keywords, colon_parts}
 

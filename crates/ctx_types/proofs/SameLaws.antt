@@ -5,7 +5,7 @@ use Rattle.std.specs.Str.{bytes_eq}
 use Rattle.std.proofs.Math.Bool.{beq}
 use Rattle.std.proofs.lemmas.Slice.Eq.{bytes_eq-Decides}
 use Rattle.ld_model.specs.Tree.{Tree, same_tree}
-use Rattle.flatten_laws.proofs.SameTree.{same_tree-exact, same_tree-from}
+use Rattle.ld_model.proofs.SameTree.{same_tree-exact, same_tree-from}
 use Rattle.case_tables.specs.declared.shape.Shape.{Shape}
 use Rattle.ctx_types.specs.declared.definition.Slot.{Slot}
 use Rattle.ctx_types.specs.declared.definition.Slot.TheVariants.{Absent, Null, Is}
