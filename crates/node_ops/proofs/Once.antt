@@ -1,10 +1,9 @@
 -- Entries put one behind another, each once in the end, are the entries added one after another.
-use Rattle.std.proofs.Common.{◌≡◌, ℕ, ◌+◌, ◌<◌, ◌≤◌, ◌⊎◌, inl, inr, List, [], ◌∷◌, ◌++◌, length, append_assoc, append-nil, length-append, cond, not, ◌||◌, arith, Bool, true, false, Option, Some, None, Less, Equal, Greater, refl, sym, ap, ◌∙◌, subst}
-use Rattle.std.specs.Prelude.{nat_lt}
+use Rattle.std.proofs.Common.{◌≡◌, ℕ, ◌+◌, List, [], ◌∷◌, ◌++◌, length, append_assoc, append-nil, cond, ◌||◌, zero, suc, take, drop, add-one, ◌-◌, arith, Bool, true, false, Option, Some, None, Less, Equal, Greater, refl, sym, ap, ◌∙◌, subst}
+use Rattle.std.specs.Prelude.{nat_lt, slice_get}
 use Rattle.std.specs.List.{list_any}
 use Rattle.std.specs.Option.{option_map}
-use Rattle.std.proofs.lemmas.Bool.{cases_lt, lt-ltb, le-ltb}
-use Rattle.std.proofs.lemmas.Bool.Decides.{nat_tests}
+use Rattle.std.proofs.lemmas.Grind.{common_steps}
 use Rattle.std.specs.Ordering.{match_ordering}
 use Rattle.std.specs.Str.{bytes_eq}
 use Rattle.std.specs.List.Sorted.{IsStrictlySortedBy}
@@ -14,71 +13,34 @@ use Rattle.ld_model.specs.Tree.{Tree, Pairs, array, object, trees_of, members_of
 use Rattle.ld_model.specs.Keys.{id_key}
 use Rattle.ld_model.specs.NodeMap.{added, entries_of, new_node, node_at, node_or_new, with_node, with_node_by, with_entries, changed}
 use Rattle.ld_json.proofs.ViewLemmas.{insert_entry-behind}
-use Rattle.node_ops.specs.Once.{few, gathered, is_kept, settled, all_settled, once, has_many, each_value, entries_once, members_once, node_once, nodes_once}
+use Rattle.node_ops.specs.Once.{appended, all_added, once, repeats, is_held, few, may_repeat, each_value, entries_once, members_once, node_once, nodes_once}
 use Rattle.node_ops.specs.Walk.{id_in, walk_to, walk_target, walk_entries, walk_property, walk_properties, walk_node, walk_item, walk_items}
 
-all_settled-append : (ts us held : List Tree) → all_settled (ts ++ us) held ≡ all_settled us (all_settled ts held)
-all_settled-append [] us held = refl
-all_settled-append (t ∷ ts) us held = all_settled-append ts us (settled t held)
+all_added-append : (ts us held : List Tree) → all_added (ts ++ us) held ≡ all_added us (all_added ts held)
+all_added-append [] us held = refl
+all_added-append (t ∷ ts) us held = all_added-append ts us (added t held)
 
--- A few entries are all kept.
-settled-few : (t : Tree) (held : List Tree) → length held < few → settled t held ≡ held ++ t ∷ []
-settled-few t held short = let is : nat_lt (length held) few ≡ true = lt-ltb (length held) few short in rw is refl
-
-all_settled-few : (ts held : List Tree) → length held + length ts ≤ few → all_settled ts held ≡ held ++ ts
-all_settled-few [] held short = sym (append-nil held)
-all_settled-few (t ∷ ts) held short =
-    ap (all_settled ts) (settled-few t held (omega (arith)))
-    ∙ all_settled-few ts (held ++ t ∷ []) (omega (arith, length-append {A = Tree}))
-    ∙ append_assoc held (t ∷ []) ts
-
-pub once-few : (ts : List Tree) → length ts ≤ few → once ts ≡ ts
+-- An entry put behind is, without what repeats, an entry added.
+once-appended : (t : Tree) (ts : List Tree) → added t (once ts) ≡ once (appended t ts)
 unfolding once
-once-few ts short = all_settled-few ts [] (omega arith)
+once-appended t ts = sym (all_added-append ts (t ∷ []) [])
 
--- Of more than a few, later ones are added, and no fewer are left.
-settled-many : (t : Tree) (held : List Tree) → few ≤ length held → settled t held ≡ added t held
+-- Where nothing repeats, all stay.
+pub added-new : (t : Tree) (held : List Tree) → list_any (same_tree t) held ≡ false → added t held ≡ held ++ t ∷ []
 unfolding added
-settled-many t held long = let is : nat_lt (length held) few ≡ false = le-ltb (length held) few long in rw is (by_found (list_any (same_tree t) held))
-  where
-    by_found : (b : Bool) → cond (not b) (held ++ t ∷ []) held ≡ cond b held (held ++ t ∷ [])
-    by_found true = refl
-    by_found false = refl
+added-new t held new = rw new refl
 
-length-settled : (t : Tree) (held : List Tree) → length held ≤ length (settled t held)
-length-settled t held = by_kept (is_kept (length held) (not (list_any (same_tree t) held)))
+all_added-new : (ts held : List Tree) → repeats held ts ≡ false → all_added ts held ≡ held ++ ts
+all_added-new [] held new = sym (append-nil held)
+all_added-new (t ∷ ts) held new = by_found (list_any (same_tree t) held) refl new (all_added-new ts (held ++ t ∷ []))
   where
-    by_kept : (b : Bool) → length held ≤ length (cond b (held ++ t ∷ []) held)
-    by_kept true = omega (arith, length-append {A = Tree})
-    by_kept false = omega arith
+    by_found : (b : Bool) → list_any (same_tree t) held ≡ b → (b || repeats (held ++ t ∷ []) ts) ≡ false → (repeats (held ++ t ∷ []) ts ≡ false → all_added ts (held ++ t ∷ []) ≡ (held ++ t ∷ []) ++ ts) → all_added (t ∷ ts) held ≡ held ++ t ∷ ts
+    by_found true is new more = absurd (cc)
+    by_found false is new more = ap (all_added ts) (added-new t held is) ∙ more new ∙ append_assoc held (t ∷ []) ts
 
-all_settled-many : (ts held : List Tree) → few ≤ length held + length ts → few ≤ length (all_settled ts held)
-all_settled-many [] held long = omega arith
-all_settled-many (t ∷ ts) held long = all_settled-many ts (settled t held) (by_length (cases_lt (length held) few))
-  where
-    by_length : (length held < few) ⊎ (few ≤ length held) → few ≤ length (settled t held) + length ts
-    by_length (inl short) = rw (settled-few t held short) (omega (arith, length-append {A = Tree}))
-    by_length (inr enough) = omega (arith, length-settled t held)
-
--- An entry gathered is, without what repeats, an entry added.
-gathered-few : (t : Tree) (ts : List Tree) → length ts < few → added t ts ≡ once (gathered t ts)
-unfolding added
-gathered-few t ts short = let is : nat_lt (length ts) few ≡ true = lt-ltb (length ts) few short in rw is (by_found (list_any (same_tree t) ts))
-  where
-    by_found : (b : Bool) → cond b ts (ts ++ t ∷ []) ≡ once (cond b ts (ts ++ t ∷ []))
-    by_found true = sym (once-few ts (omega arith))
-    by_found false = sym (once-few (ts ++ t ∷ []) (omega (arith, length-append {A = Tree})))
-
-gathered-many : (t : Tree) (ts : List Tree) → few ≤ length ts → added t (once ts) ≡ once (ts ++ t ∷ [])
+once-new : (ts : List Tree) → repeats [] ts ≡ false → once ts ≡ ts
 unfolding once
-gathered-many t ts long = sym (settled-many t (all_settled ts []) (all_settled-many ts [] (omega arith))) ∙ sym (all_settled-append ts (t ∷ []) [])
-
-once-gathered : (t : Tree) (ts : List Tree) → added t (once ts) ≡ once (gathered t ts)
-once-gathered t ts = by_length (cases_lt (length ts) few)
-  where
-    by_length : (length ts < few) ⊎ (few ≤ length ts) → added t (once ts) ≡ once (gathered t ts)
-    by_length (inl short) = ap (added t) (once-few ts (omega arith)) ∙ gathered-few t ts short
-    by_length (inr long) = let is : nat_lt (length ts) few ≡ false = le-ltb (length ts) few long in gathered-many t ts long ∙ rw is refl
+once-new ts new = all_added-new ts [] new
 
 -- Values changed in place: what stands at a key, a further value, and the keys.
 module _ (f : Tree → Tree) where
@@ -159,38 +121,38 @@ walk_target-once : (t : Tree) (nodes : Pairs) → walk_target t (nodes_once node
 walk_target-once (object ms) nodes = walk_to-once (id_in (member_at id_key (member_list ms))) nodes
 walk_target-once _ nodes = refl
 
-walk_entries-once : (id property : List ℕ) (es : List Tree) (nodes : Pairs) → walk_entries added id property es (nodes_once nodes) ≡ nodes_once (walk_entries gathered id property es nodes)
+walk_entries-once : (id property : List ℕ) (es : List Tree) (nodes : Pairs) → walk_entries added id property es (nodes_once nodes) ≡ nodes_once (walk_entries appended id property es nodes)
 walk_entries-once id property [] nodes = refl
 walk_entries-once id property (e ∷ es) nodes =
     ap (λ ns. walk_entries added id property es (changed id property (added e) ns)) (walk_target-once e nodes)
-    ∙ ap (walk_entries added id property es) (changed-once property (gathered e) (added e) (once-gathered e) id (walk_target e nodes))
-    ∙ walk_entries-once id property es (changed id property (gathered e) (walk_target e nodes))
+    ∙ ap (walk_entries added id property es) (changed-once property (appended e) (added e) (once-appended e) id (walk_target e nodes))
+    ∙ walk_entries-once id property es (changed id property (appended e) (walk_target e nodes))
 
-walk_property-once : (id : List ℕ) (m : List ℕ × Tree) (nodes : Pairs) → walk_property added id m (nodes_once nodes) ≡ nodes_once (walk_property gathered id m nodes)
+walk_property-once : (id : List ℕ) (m : List ℕ × Tree) (nodes : Pairs) → walk_property added id m (nodes_once nodes) ≡ nodes_once (walk_property appended id m nodes)
 walk_property-once id m nodes =
     ap (walk_entries added id m.0 (entries_of (Some m.1))) (changed-once m.0 (λ ts. ts) (λ ts. ts) (λ ts. refl) id nodes)
     ∙ walk_entries-once id m.0 (entries_of (Some m.1)) (changed id m.0 (λ ts. ts) nodes)
 
-walk_properties-once : (id : List ℕ) (ms nodes : Pairs) → walk_properties added id ms (nodes_once nodes) ≡ nodes_once (walk_properties gathered id ms nodes)
+walk_properties-once : (id : List ℕ) (ms nodes : Pairs) → walk_properties added id ms (nodes_once nodes) ≡ nodes_once (walk_properties appended id ms nodes)
 walk_properties-once id [] nodes = refl
 walk_properties-once id (m ∷ ms) nodes =
-    ap (walk_properties added id ms) (by_key (bytes_eq m.0 id_key)) ∙ walk_properties-once id ms (cond (bytes_eq m.0 id_key) nodes (walk_property gathered id m nodes))
+    ap (walk_properties added id ms) (by_key (bytes_eq m.0 id_key)) ∙ walk_properties-once id ms (cond (bytes_eq m.0 id_key) nodes (walk_property appended id m nodes))
   where
-    by_key : (b : Bool) → cond b (nodes_once nodes) (walk_property added id m (nodes_once nodes)) ≡ nodes_once (cond b nodes (walk_property gathered id m nodes))
+    by_key : (b : Bool) → cond b (nodes_once nodes) (walk_property added id m (nodes_once nodes)) ≡ nodes_once (cond b nodes (walk_property appended id m nodes))
     by_key true = refl
     by_key false = walk_property-once id m nodes
 
-walk_node-once : (o : Option (List ℕ)) (ms nodes : Pairs) → walk_node added o ms (nodes_once nodes) ≡ nodes_once (walk_node gathered o ms nodes)
+walk_node-once : (o : Option (List ℕ)) (ms nodes : Pairs) → walk_node added o ms (nodes_once nodes) ≡ nodes_once (walk_node appended o ms nodes)
 walk_node-once (Some id) ms nodes = ap (walk_properties added id ms) (with_node-once id nodes) ∙ walk_properties-once id ms (with_node id nodes)
 walk_node-once None ms nodes = refl
 
-walk_item-once : (t : Tree) (nodes : Pairs) → walk_item added t (nodes_once nodes) ≡ nodes_once (walk_item gathered t nodes)
+walk_item-once : (t : Tree) (nodes : Pairs) → walk_item added t (nodes_once nodes) ≡ nodes_once (walk_item appended t nodes)
 walk_item-once (object ms) nodes = walk_node-once (id_in (member_at id_key (member_list ms))) (member_list ms) nodes
 walk_item-once _ nodes = refl
 
-pub walk_items-once : (ts : List Tree) (nodes : Pairs) → walk_items added ts (nodes_once nodes) ≡ nodes_once (walk_items gathered ts nodes)
+pub walk_items-once : (ts : List Tree) (nodes : Pairs) → walk_items added ts (nodes_once nodes) ≡ nodes_once (walk_items appended ts nodes)
 walk_items-once [] nodes = refl
-walk_items-once (t ∷ ts) nodes = ap (walk_items added ts) (walk_item-once t nodes) ∙ walk_items-once ts (walk_item gathered t nodes)
+walk_items-once (t ∷ ts) nodes = ap (walk_items added ts) (walk_item-once t nodes) ∙ walk_items-once ts (walk_item appended t nodes)
 
 -- The members so far, with the next one put behind them.
 pub put_behind : (done new : Pairs) (m : List ℕ × Tree) (more all : Pairs) → AreAscending all → done ++ m ∷ more ≡ all → new ≡ insert_entry byte_order done m.0 m.1 → new ++ more ≡ all
@@ -198,24 +160,52 @@ put_behind done new m more all sorted left is =
     let whole : AreAscending (done ++ m ∷ more) = subst AreAscending (sym left) sorted in
     ap (λ l. l ++ more) (is ∙ insert_entry-behind done m more whole) ∙ append_assoc done (m ∷ []) more ∙ left
 
--- Where no property has more than a few entries, nothing repeats.
-trees_of-tree_list : (ts : Trees) → trees_of (tree_list ts) ≡ ts
+-- Where nothing may repeat, the members stay.
+pub trees_of-tree_list : (ts : Trees) → trees_of (tree_list ts) ≡ ts
 trees_of-tree_list no_trees = refl
 trees_of-tree_list (tree t ts) = ap (tree t) (trees_of-tree_list ts)
 
-entries_once-few : (t : Tree) → has_many t ≡ false → entries_once t ≡ t
-entries_once-few (array ts) short =
-    let within : length (tree_list ts) ≤ few = ltb-le (length (tree_list ts)) short in
-    ap (λ l. array (trees_of l)) (once-few (tree_list ts) within) ∙ ap array (trees_of-tree_list ts)
+entries_once-new : (t : Tree) → may_repeat t ≡ false → entries_once t ≡ t
+entries_once-new (array ts) new =
+    ap (λ l. array (trees_of l)) (once-new (tree_list ts) (neither (nat_lt few (length (tree_list ts))) (repeats [] (tree_list ts)) new)) ∙ ap array (trees_of-tree_list ts)
   where
-    ltb-le : (n : ℕ) → nat_lt few n ≡ false → n ≤ few
-    ltb-le n is = grind (arith, nat_tests)
-entries_once-few _ short = refl
+    neither : (a b : Bool) → (a || b) ≡ false → b ≡ false
+    neither true b h = absurd (cc)
+    neither false b h = h
+entries_once-new _ new = refl
 
-pub members_once-few : (ms : Pairs) → list_any (λ m. has_many m.1) ms ≡ false → members_once ms ≡ ms
-members_once-few [] short = refl
-members_once-few (m ∷ ms) short = by_value (has_many m.1) refl (members_once-few ms) short
+pub members_once-new : (ms : Pairs) → list_any (λ m. may_repeat m.1) ms ≡ false → members_once ms ≡ ms
+members_once-new [] new = refl
+members_once-new (m ∷ ms) new = by_value (may_repeat m.1) refl (members_once-new ms) new
   where
-    by_value : (b : Bool) → has_many m.1 ≡ b → (list_any (λ m. has_many m.1) ms ≡ false → members_once ms ≡ ms) → (b || list_any (λ m. has_many m.1) ms) ≡ false → members_once (m ∷ ms) ≡ m ∷ ms
-    by_value true is rest short = absurd (cc)
-    by_value false is rest short = ap (λ t. (m.0, t) ∷ members_once ms) (entries_once-few m.1 is) ∙ ap (λ l. m ∷ l) (rest short)
+    by_value : (b : Bool) → may_repeat m.1 ≡ b → (list_any (λ m. may_repeat m.1) ms ≡ false → members_once ms ≡ ms) → (b || list_any (λ m. may_repeat m.1) ms) ≡ false → members_once (m ∷ ms) ≡ m ∷ ms
+    by_value true is rest new = absurd (cc)
+    by_value false is rest new = ap (λ t. (m.0, t) ∷ members_once ms) (entries_once-new m.1 is) ∙ ap (λ l. m ∷ l) (rest new)
+
+-- One entry after another, with those ahead of it.
+repeats-step : (held ts : List Tree) (n : ℕ) → repeats (held ++ take n ts) (drop n ts) ≡ (is_held (slice_get ts n) (held ++ take n ts) || repeats (held ++ take (suc n) ts) (drop (suc n) ts))
+repeats-step held [] zero = refl
+repeats-step held [] (suc n) = refl
+repeats-step held (t ∷ ts) zero = rw (append-nil held) refl
+repeats-step held (t ∷ ts) (suc n) =
+    ap (λ l. repeats l (drop n ts)) (sym (append_assoc held (t ∷ []) (take n ts))) ∙ repeats-step (held ++ t ∷ []) ts n
+    ∙ ap (λ l. is_held (slice_get ts n) l || repeats ((held ++ t ∷ []) ++ take (suc n) ts) (drop (suc n) ts)) (append_assoc held (t ∷ []) (take n ts))
+    ∙ ap (λ l. is_held (slice_get ts n) (held ++ t ∷ take n ts) || repeats l (drop (suc n) ts)) (append_assoc held (t ∷ []) (take (suc n) ts))
+
+pub repeats-next : (ts : List Tree) (n : ℕ) → repeats (take n ts) (drop n ts) ≡ (is_held (slice_get ts n) (take n ts) || repeats (take (n + 1) ts) (drop (n + 1) ts))
+repeats-next ts n = rw add-one (repeats-step [] ts n)
+
+pub repeats-all : (ts : List Tree) (n : ℕ) → n ≡ length ts → repeats (take n ts) (drop n ts) ≡ false
+repeats-all ts n is = let none : drop n ts ≡ [] = drop-all ts n is in ap (repeats (take n ts)) none
+  where
+    drop-all : (ts : List Tree) (n : ℕ) → n ≡ length ts → drop n ts ≡ []
+    drop-all ts n is = grind (arith, common_steps)
+
+-- The first ones of a list that begins with another entry.
+pub any_take : (p : Tree → Bool) (n : ℕ) (t : Tree) (ts : List Tree) → (n ≡ 0 → ⊥) → p t ≡ false → list_any p (take (n - 1) ts) ≡ list_any p (take n (t ∷ ts))
+any_take p zero t ts some other = absurd (some refl)
+any_take p (suc n) t ts some other = let one : suc n - 1 ≡ n = omega arith in rw (one, other) refl
+
+pub added-there : (t : Tree) (held : List Tree) → list_any (same_tree t) held ≡ true → held ≡ added t held
+unfolding added
+added-there t held found = rw found refl

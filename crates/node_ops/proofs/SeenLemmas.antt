@@ -1,10 +1,10 @@
 -- Entries that are told apart by a text.
-use Rattle.std.proofs.Common.{◌≡◌, ℕ, List, [], ◌∷◌, ◌++◌, cond, Bool, true, false, ◌&&◌, ◌||◌, Option, Some, None, String, Global, refl, sym, ap, ◌∙◌, subst}
+use Rattle.std.proofs.Common.{◌≡◌, ℕ, List, [], ◌∷◌, ◌++◌, cond, Bool, true, false, ◌&&◌, ◌||◌, Option, Some, None, refl, sym, ap, ◌∙◌, subst}
 use Rattle.std.specs.Str.{bytes_eq}
 use Rattle.std.specs.List.{list_any}
-use Rattle.std.specs.BTreeSet.{BTreeSet, contains_text}
+use Rattle.std.specs.BTreeSet.{BTreeSet, contains}
 use Rattle.std.proofs.lemmas.List.Folds.{list_any-append}
-use Rattle.ld_model.specs.Tree.{Tree, text, object, no_members, member, same_tree}
+use Rattle.ld_model.specs.Tree.{Tree, text, object, no_members, member, same_tree, byte_order}
 use Rattle.node_ops.specs.Walk.{id_in}
 use Rattle.node_ops.specs.Seen.{lone, lone_text, AreTextsAt}
 use Rattle.node_ops.proofs.Plain.{same_bytes, bytes_eq-comm}
@@ -58,12 +58,12 @@ module _ (key : List ℕ) (itself : bytes_eq key key ≡ true) where
   any_more s t ts = list_any-append (same_tree (lone key s)) ts (t ∷ []) ∙ swap (list_any (same_tree (lone key s)) ts) (same_tree (lone key s) t)
 
   -- The texts noted, once that of a further entry is noted, and once an entry without such a text stands behind.
-  pub noted_same : (r : List ℕ) (old new : BTreeSet (String Global)) (t : Tree) (ts : List Tree) → AreTextsAt key old ts → ((s : List ℕ) → contains_text new s ≡ (bytes_eq r s || contains_text old s)) → t ≡ lone key r → AreTextsAt key new (ts ++ t ∷ [])
+  pub noted_same : (r : List ℕ) (old new : BTreeSet (List ℕ)) (t : Tree) (ts : List Tree) → AreTextsAt key old ts → ((s : List ℕ) → contains byte_order new s ≡ (bytes_eq r s || contains byte_order old s)) → t ≡ lone key r → AreTextsAt key new (ts ++ t ∷ [])
   noted_same r old new t ts known noted is s =
       let equal : same_tree (lone key s) t ≡ bytes_eq r s = ap (same_tree (lone key s)) is ∙ lone-lone s r ∙ bytes_eq-comm r s in
       noted s ∙ ap (λ b. bytes_eq r s || b) (known s) ∙ ap (λ b. b || list_any (same_tree (lone key s)) ts) (sym equal) ∙ sym (any_more s t ts)
 
-  pub noted_other : (texts : BTreeSet (String Global)) (t : Tree) (ts : List Tree) → AreTextsAt key texts ts → lone_text key t ≡ None → AreTextsAt key texts (ts ++ t ∷ [])
+  pub noted_other : (texts : BTreeSet (List ℕ)) (t : Tree) (ts : List Tree) → AreTextsAt key texts ts → lone_text key t ≡ None → AreTextsAt key texts (ts ++ t ∷ [])
   noted_other texts t ts known without s =
       known s ∙ ap (λ b. b || list_any (same_tree (lone key s)) ts) (sym (apart key s t without)) ∙ sym (any_more s t ts)
 
@@ -78,7 +78,7 @@ module _ (key : List ℕ) (itself : bytes_eq key key ≡ true) where
           at ∙ ap (lone key) (sym (same_bytes s r equal))
 
   -- An entry that is there makes no difference behind.
-  pub noted_there : (texts : BTreeSet (String Global)) (t : Tree) (ts : List Tree) → list_any (same_tree t) ts ≡ true → AreTextsAt key texts (ts ++ t ∷ []) → AreTextsAt key texts ts
+  pub noted_there : (texts : BTreeSet (List ℕ)) (t : Tree) (ts : List Tree) → list_any (same_tree t) ts ≡ true → AreTextsAt key texts (ts ++ t ∷ []) → AreTextsAt key texts ts
   noted_there texts t ts found known s = known s ∙ any_more s t ts ∙ by_same (same_tree (lone key s) t) refl
     where
       by_same : (b : Bool) → same_tree (lone key s) t ≡ b → (b || list_any (same_tree (lone key s)) ts) ≡ list_any (same_tree (lone key s)) ts

@@ -1,5 +1,5 @@
-pub mod Graph
-pub mod Once
-pub mod Change
 pub mod Walk
+pub mod Once
+pub mod Gather
+pub mod Graph
 pub mod Seen

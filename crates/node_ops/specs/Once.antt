@@ -1,41 +1,40 @@
--- How the entries of a property are gathered: a short list is searched for each new entry, a longer one takes it as it is,
--- and what repeats in a longer one is left out in the end.
-use Rattle.std.specs.Prelude.{ℕ, List, [], ◌∷◌, ◌++◌, length, nat_lt, Bool, false, not, ◌&&◌, ◌||◌, if◌then◌else◌, map as each}
+-- How the entries of a property are gathered: each goes behind the others, and what repeats is left out in the end.
+use Rattle.std.specs.Prelude.{ℕ, List, [], ◌∷◌, ◌++◌, length, nat_lt, Bool, false, ◌||◌, Option, Some, None, map as each}
 use Rattle.std.specs.List.{list_any}
 use Rattle.ld_model.specs.Tree.{Tree, array, object, Pairs, trees_of, tree_list, members_of, member_list, same_tree}
+use Rattle.ld_model.specs.NodeMap.{added}
 
--- A list with fewer entries is searched for each new one.
+-- The entries with this one at their end.
+abbrev pub appended : Tree → List Tree → List Tree
+appended t ts = ts ++ t ∷ []
+
+-- The entries held so far once others are added, one after another: each unless an equal one is held.
+abbrev pub all_added : List Tree → List Tree → List Tree
+all_added [] held = held
+all_added (t ∷ ts) held = all_added ts (added t held)
+
+-- A list without the entries that equal an earlier one.
+unfoldable pub once : List Tree → List Tree
+once ts = all_added ts []
+
+-- There is an entry, and it equals one held.
+abbrev pub is_held : Option Tree → List Tree → Bool
+is_held (Some t) held = list_any (same_tree t) held
+is_held None held = false
+
+-- An entry equals one held, or one ahead of it.
+abbrev pub repeats : List Tree → List Tree → Bool
+repeats held [] = false
+repeats held (t ∷ ts) = list_any (same_tree t) held || repeats (held ++ t ∷ []) ts
+
+-- A list of at most so many entries is searched for each entry.
 abbrev pub few : ℕ
 few = 16
 
--- The list is short, and an entry in it equals this one.
-abbrev pub is_found : Tree → List Tree → Bool
-is_found t ts = nat_lt (length ts) few && list_any (same_tree t) ts
-
--- The entries with this one at their end, unless the list is short and an equal one is in it.
-abbrev pub gathered : Tree → List Tree → List Tree
-gathered t ts = if is_found t ts then ts else (ts ++ t ∷ [])
-
--- Among so many entries, an entry of a gathered list is kept: the first ones, and later ones that are new.
-abbrev pub is_kept : ℕ → Bool → Bool
-is_kept count new = nat_lt count few || new
-
-abbrev pub settled : Tree → List Tree → List Tree
-settled t held = if is_kept (length held) (not (list_any (same_tree t) held)) then (held ++ t ∷ []) else held
-
--- The entries held so far, once those of a gathered list are settled, one after another.
-abbrev pub all_settled : List Tree → List Tree → List Tree
-all_settled [] held = held
-all_settled (t ∷ ts) held = all_settled ts (settled t held)
-
--- What a gathered list stands for: its entries without those that repeat.
-unfoldable pub once : List Tree → List Tree
-once ts = all_settled ts []
-
--- The value of a property is a list of more than a few entries, in which some may repeat.
-abbrev pub has_many : Tree → Bool
-has_many (array ts) = nat_lt few (length (tree_list ts))
-has_many _ = false
+-- Some entry of a list may equal an earlier one: one does, or the list is long.
+abbrev pub may_repeat : Tree → Bool
+may_repeat (array ts) = nat_lt few (length (tree_list ts)) || repeats [] (tree_list ts)
+may_repeat _ = false
 
 -- The members with their values changed.
 abbrev pub each_value : (Tree → Tree) → Pairs → Pairs

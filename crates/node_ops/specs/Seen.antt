@@ -1,10 +1,9 @@
 -- The entries that are told apart by a text.
-use Rattle.std.specs.Prelude.{ℕ, ◌≡◌, List, [], ◌∷◌, if◌then◌else◌, Option, Some, None, String}
-use Rattle.std.specs.declared.alloc.Global.{Global}
-use Rattle.std.specs.BTreeSet.{BTreeSet, contains_text}
+use Rattle.std.specs.Prelude.{ℕ, ◌≡◌, List, [], ◌∷◌, if◌then◌else◌, Option, Some, None}
+use Rattle.std.specs.BTreeSet.{BTreeSet, contains}
 use Rattle.std.specs.List.{list_any}
 use Rattle.std.specs.Str.{bytes_eq}
-use Rattle.ld_model.specs.Tree.{Tree, Pairs, text, object, no_members, member, member_list, same_tree}
+use Rattle.ld_model.specs.Tree.{Tree, Pairs, text, object, no_members, member, member_list, same_tree, byte_order}
 use Rattle.ld_model.specs.Keys.{id_key, value_key}
 use Rattle.node_ops.specs.Walk.{id_in}
 use Rattle.node_ops.specs.declared.repeats.Seen.{Seen}
@@ -28,8 +27,8 @@ lone_text key (object ms) = text_under key (only (member_list ms))
 lone_text key _ = None
 
 -- These are the texts that stand alone at this key among the entries.
-abbrev pub AreTextsAt : List ℕ → BTreeSet (String Global) → List Tree → Type 0
-AreTextsAt key texts ts = (s : List ℕ) → contains_text texts s ≡ list_any (same_tree (lone key s)) ts
+abbrev pub AreTextsAt : List ℕ → BTreeSet (List ℕ) → List Tree → Type 0
+AreTextsAt key texts ts = (s : List ℕ) → contains byte_order texts s ≡ list_any (same_tree (lone key s)) ts
 
 -- The texts noted are those of the values and of the references among the entries.
 pub record Notes (seen : Seen) (ts : List Tree) : Type 0 where

@@ -1,17 +1,14 @@
 // Node map generation.
-ghost use Rattle.std.specs.Prelude.{◌≡◌, true, OnOk, MatchResult};
-ghost use Rattle.std.specs.Option.{option_copied};
-ghost use Rattle.ld_model.specs.Tree.{member_at};
+ghost use Rattle.std.specs.Prelude.{◌≡◌, true, IfOk, OnOk, MatchResult};
 ghost use Rattle.ld_model.specs.Keys.{id_key};
 ghost use Rattle.ld_model.specs.Plain.{are_plain_items};
 ghost use Rattle.ld_model.specs.NodeMap.{generate};
-ghost use Rattle.ld_json.specs.View.{view, trees_view, members_view};
+ghost use Rattle.ld_json.specs.View.{view};
 ghost use Rattle.node_ops.specs.Graph.{nodes_view};
-ghost use Rattle.node_ops.specs.Once.{gathered};
-ghost use Rattle.node_ops.specs.Walk.{walk_target, walk_entries, walk_property, walk_properties, walk_item, walk_items, id_in};
+ghost use Rattle.node_ops.specs.Walk.{walk_target};
+ghost use Rattle.node_ops.specs.Gather.{entries_in, with_targets, with_all_targets, gather_item, gather_items};
 
-use crate::entries::Change;
-use crate::graph::{Graph, change_node, ensure_node, nodes_of};
+use crate::graph::{Graph, ensure_node, gather_members, id_of, nodes_of};
 use ld_json::{Members, Text, Tree, Trees};
 use std::alloc::{AllocError, Global};
 use std::collections::BTreeMap;
@@ -64,96 +61,83 @@ pub fn node_map(alloc: Global, items: &Trees) -> Result<(NodeMap, u64), MapStop>
     ensures { MatchResult result (λ r. generate items.now ≡ record { graphs = r.0.graphs; issued = r.1 })
         (λ e. e ≡ MapStop.OutOfMemory) }
 {
+    let copy = copy_of(alloc, items)?;
+    into_node_map(alloc, copy)
+}
+
+fn copy_of(alloc: Global, items: &Trees) -> Result<Trees, AllocError>
+    ensures { IfOk result (λ copy. copy ≡ items.now) }
+{
+    let mut copy = Trees::with_capacity(alloc, items.len())?;
+    for item in items {
+        copy.push(item.copy(alloc)?)?;
+    }
+    Ok(copy)
+}
+
+/// The same as [`node_map`], of items that are taken apart: what they say of the nodes is moved and not copied.
+///
+/// # Errors
+///
+/// Only `OutOfMemory`.
+pub fn into_node_map(alloc: Global, items: Trees) -> Result<(NodeMap, u64), MapStop>
+    requires { are_plain_items items ≡ true }
+    ensures { MatchResult result (λ r. generate items ≡ record { graphs = r.0.graphs; issued = r.1 })
+        (λ e. e ≡ MapStop.OutOfMemory) }
+{
     let mut graph = BTreeMap::new(alloc);
-    add_items(alloc, &mut graph, items.as_slice())?;
+    gather_items(alloc, &mut graph, items)?;
     let nodes = nodes_of(alloc, graph)?;
     let mut graphs = Members::new(alloc);
     graphs.put(alloc, "@default", Tree::Map(nodes))?;
     Ok((NodeMap { graphs }, 0))
 }
 
-fn add_items(alloc: Global, graph: &mut Graph, items: &[Tree]) -> Result<(), AllocError>
-    ensures { OnOk result (nodes_view graph.new.entries ≡ walk_items gathered (trees_view items.now) (nodes_view graph.old.entries)) }
+fn gather_items(alloc: Global, graph: &mut Graph, items: Trees) -> Result<(), AllocError>
+    ensures { OnOk result (nodes_view graph.new.entries ≡ gather_items items (nodes_view graph.old.entries)) }
 {
     for item in items {
-        add_item(alloc, graph, item)?;
+        gather_item(alloc, graph, item)?;
     }
     Ok(())
 }
 
-/// A node object (step 6).
-fn add_item(alloc: Global, graph: &mut Graph, item: &Tree) -> Result<(), AllocError>
-    ensures { OnOk result (nodes_view graph.new.entries ≡ walk_item gathered (view item.now) (nodes_view graph.old.entries)) }
+/// A node object (step 6): the nodes that it refers to are made, and then its own.
+fn gather_item(alloc: Global, graph: &mut Graph, item: Tree) -> Result<(), AllocError>
+    ensures { OnOk result (nodes_view graph.new.entries ≡ gather_item (view item) (nodes_view graph.old.entries)) }
 {
     let Tree::Map(members) = item else {
         return Ok(());
     };
-    let Some(id) = id_of(members) else {
+    if id_of(&members).is_none() {
+        return Ok(());
+    }
+    ensure_all_targets(alloc, graph, &members)?;
+    gather_members(alloc, graph, members)?;
+    Ok(())
+}
+
+/// Makes the nodes that the properties of a node object refer to.
+fn ensure_all_targets(alloc: Global, graph: &mut Graph, members: &Members) -> Result<(), AllocError>
+    ensures { OnOk result (nodes_view graph.new.entries ≡ with_all_targets members.now (nodes_view graph.old.entries)) }
+{
+    for (key, value) in members {
+        if key.as_str() != "@id" {
+            ensure_targets(alloc, graph, value)?;
+        }
+    }
+    Ok(())
+}
+
+/// Makes the nodes that the entries of a property refer to.
+fn ensure_targets(alloc: Global, graph: &mut Graph, value: &Tree) -> Result<(), AllocError>
+    ensures { OnOk result (nodes_view graph.new.entries ≡ with_targets (entries_in (view value.now)) (nodes_view graph.old.entries)) }
+{
+    let Tree::Items(entries) = value else {
         return Ok(());
     };
-    ensure_node(alloc, graph, id)?;
-    add_properties(alloc, graph, id, members.as_slice())?;
-    Ok(())
-}
-
-/// The id of a node object or a reference.
-fn id_of(members: &Members) -> Option<&str>
-    ensures { option_copied result ≡ id_in (member_at id_key members.now) }
-{
-    match members.get("@id") {
-        Some(Tree::Str(id)) => Some(id.as_str()),
-        _ => None,
-    }
-}
-
-fn add_properties(
-    alloc: Global,
-    graph: &mut Graph,
-    id: &str,
-    members: &[(Text, Tree)],
-) -> Result<(), AllocError>
-    ensures { OnOk result (nodes_view graph.new.entries ≡ walk_properties gathered id.now (members_view members.now) (nodes_view graph.old.entries)) }
-{
-    for member in members {
-        if member.0.as_str() != "@id" {
-            add_property(alloc, graph, id, member)?;
-        }
-    }
-    Ok(())
-}
-
-/// A property with its entries (step 6.12).
-fn add_property(
-    alloc: Global,
-    graph: &mut Graph,
-    id: &str,
-    member: &(Text, Tree),
-) -> Result<(), AllocError>
-    ensures { OnOk result (nodes_view graph.new.entries ≡ walk_property gathered id.now (member.now.0, view member.now.1) (nodes_view graph.old.entries)) }
-{
-    let property = member.0.as_str();
-    change_node(alloc, graph, id, property, Change::Ensure)?;
-    match &member.1 {
-        Tree::Items(entries) => {
-            add_entries(alloc, graph, id, property, entries.as_slice())?;
-            Ok(())
-        }
-        _ => Ok(()),
-    }
-}
-
-fn add_entries(
-    alloc: Global,
-    graph: &mut Graph,
-    id: &str,
-    property: &str,
-    entries: &[Tree],
-) -> Result<(), AllocError>
-    ensures { OnOk result (nodes_view graph.new.entries ≡ walk_entries gathered id.now property.now (trees_view entries.now) (nodes_view graph.old.entries)) }
-{
     for entry in entries {
         ensure_target(alloc, graph, entry)?;
-        change_node(alloc, graph, id, property, Change::Add(entry))?;
     }
     Ok(())
 }

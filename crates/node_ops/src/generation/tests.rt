@@ -10,8 +10,8 @@ use std::test::Fail;
 fn nodes_text<R: Abort>(rt: &R, alloc: Global, document: &str) -> Result<Vec<u8>, Fail> {
     let tree = read_tree(alloc, document.as_bytes())?;
     let mut graph = BTreeMap::new(alloc);
-    match &tree {
-        Tree::Items(items) => add_items(alloc, &mut graph, items.as_slice())?,
+    match tree {
+        Tree::Items(items) => gather_items(alloc, &mut graph, items)?,
         _ => assert!(rt; false, "no array: {document}"),
     }
     let nodes = nodes_of(alloc, graph)?;

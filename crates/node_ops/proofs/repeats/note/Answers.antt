@@ -1,17 +1,17 @@
-use Rattle.std.proofs.Common.{◌≡◌, cond, Bool, true, false, ◌||◌, not, string_bytes, refl, ap, ◌∙◌}
+use Rattle.std.proofs.Common.{◌≡◌, cond, Bool, true, false, ◌||◌, refl, ap, ◌∙◌}
 use Rattle.std.specs.Str.{bytes_eq}
-use Rattle.std.specs.BTreeSet.{contains_text}
-use Rattle.std.proofs.lemmas.Map.Text.{btree_set_updates_text}
+use Rattle.std.specs.BTreeSet.{contains}
+use Rattle.std.specs.BTreeMap.{is_at}
+use Rattle.std.proofs.lemmas.Map.Text.{is_eq-slice_cmp}
+use Rattle.ld_model.specs.Tree.{byte_order}
 use Rattle.node_ops.proofs.repeats.note.Goals as goal
 
 or : (b c : Bool) → cond b true c ≡ (b || c)
 or true c = refl
 or false c = refl
 
-pub returns-in-Ok-clause-answer : goal.returns-in-Ok-clause-answer
-returns-in-Ok-clause-answer c = c.in-Ok.ensures.added ∙ ap (λ bs. not (contains_text c.args.texts.now bs)) c.in_ok-from_str.ensures.ok
-
 pub returns-in-Ok-clause-noted : goal.returns-in-Ok-clause-noted
 returns-in-Ok-clause-noted c =
-    λ s. btree_set_updates_text _ c.args.texts.now c.insert.new.self true c.in-Ok.ensures.updates s
-    ∙ or (bytes_eq (string_bytes c.in_ok-from_str.field-0) s) (contains_text c.args.texts.now s) ∙ ap (λ bs. bytes_eq bs s || contains_text c.args.texts.now s) c.in_ok-from_str.ensures.ok
+    λ s. c.in-Ok.ensures.updates.0 s ∙ or (is_at (byte_order c.in_ok-copy.field-0) s) (contains byte_order c.args.texts.now s)
+    ∙ ap (λ b. b || contains byte_order c.args.texts.now s) (is_eq-slice_cmp c.in_ok-copy.field-0 s)
+    ∙ ap (λ bs. bytes_eq bs s || contains byte_order c.args.texts.now s) c.in_ok-copy.ensures

@@ -1,0 +1,15 @@
+use Rattle.std.proofs.Common.{◌≡◌, ◌++◌, ◌∷◌, List, ℕ}
+use Rattle.std.proofs.lemmas.Map.Iter.{rest_more}
+use Rattle.ld_json.specs.View.{view, members_view}
+use Rattle.ld_json.specs.declared.value.Tree.{Tree}
+use Rattle.node_ops.proofs.GraphLemmas.{ascending-shown}
+use Rattle.node_ops.proofs.Once.{put_behind}
+use Rattle.node_ops.proofs.merging.members_of.Goals as goal
+
+pub loop-key-preserved : goal.loop-key-preserved
+loop-key-preserved c =
+    let e : List ℕ × Tree = (c.in-Some.key, c.in-Some.value) in
+    let step : c.loop-key.key-iterator ≡ e ∷ c.next.new.self = rest_more (λ x. x) _ _ _ _ c.in-Some.is c.next.ensures.steps in
+    let left : c.loop-key.members ++ members_view c.loop-key.key-iterator ≡ members_view c.args.values.entries = c.loop-key.invariant in
+    put_behind c.loop-key.members c.set.new.self (c.in-Some.key, view c.in-Some.value) (members_view c.next.new.self) (members_view c.args.values.entries)
+    (ascending-shown (λ k v. view v) c.args.values.entries c.into_iter-key-iterator.ensures.into_iter_gives.5) (rw step at left) c.in_ok-set.ensures.ok

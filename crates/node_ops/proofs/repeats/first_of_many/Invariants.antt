@@ -1,0 +1,12 @@
+use Rattle.std.proofs.Common.{◌≡◌}
+use Rattle.node_ops.specs.Once.{all_added, once}
+use Rattle.node_ops.specs.Seen.{Notes}
+use Rattle.node_ops.proofs.repeats.first_of_many.Given as goal
+
+-- What is left, added to those kept, gives what all give, and the texts of those kept are noted.
+abbrev pub invariant-loop-entry : goal.invariant-loop-entry
+invariant-loop-entry l =
+    record {
+      left : all_added l.entry-iterator l.kept ≡ once l.initial.entry-iterator;
+      noted : Notes l.seen l.kept;
+    }
