@@ -1,18 +1,15 @@
 -- A number that more digits write is no smaller.
-use Rattle.std.proofs.Common.{◌≡◌, ℕ, ◌+◌, ◌-◌, ◌*◌, ◌^◌, ◌<◌, ◌≤◌, ◌&&◌, List, [], ◌∷◌, Bool, true, false, length, get_or, drop, refl, ap, ◌∙◌, arith, add-one, drop-cons}
+use Rattle.std.proofs.Common.{◌≡◌, ℕ, ◌+◌, ◌-◌, ◌*◌, ◌^◌, ◌<◌, ◌≤◌, ◌&&◌, List, [], ◌∷◌, false, length, get_or, drop, ap, ◌∙◌, arith, add-one, drop-cons}
 use Rattle.std.specs.Prelude.{nat_le}
 use Rattle.std.specs.List.{list_all}
 use Rattle.std.specs.Char.{is_ascii_digit}
 use Rattle.std.proofs.lemmas.Bool.Decides.{nat_tests}
+use Rattle.ld_model.proofs.Truths.{and-false}
 use Rattle.ld_json.specs.Numbers.{decimal_from, is_within}
 
 grows : (n : ℕ) (xs : List ℕ) → n ≤ decimal_from n xs
 grows n [] = omega arith
 grows n (x ∷ xs) = omega (arith, grows (10 * n + (x - 48)) xs)
-
-and-false : (b : Bool) → (b && false) ≡ false
-and-false true = refl
-and-false false = refl
 
 above : (a b : ℕ) → b < a → nat_le a b ≡ false
 above a b h = grind (arith, nat_tests)

@@ -3,12 +3,11 @@ use Rattle.std.proofs.Common.{◌≡◌, ℕ, List, [], ◌∷◌, Option, Some,
 use Rattle.std.specs.BTreeMap.{insert_entry}
 use Rattle.std.specs.Ordering.{match_ordering, nat_cmp}
 use Rattle.std.specs.Cmp.Lexicographic.{slice_cmp}
-use Rattle.json.specs.Token.{Token}
 use Rattle.json.specs.Lex.{tokens}
 use Rattle.json.specs.Json as json
 use Rattle.json.specs.Json.{value, if_last}
 use Rattle.serde_json.specs.Data as sj
-use Rattle.serde_json.specs.Read.{number_of, of_json, of_items, of_members, read}
+use Rattle.serde_json.specs.Read.{number_of, of_json, of_items, of_members}
 use Rattle.ld_model.specs.Tree.{Tree, array, object, tree, member, Pairs, trees_of, members_of, byte_order}
 use Rattle.ld_json.specs.Read.{number_tree, tree_of, trees_in, members_in}
 use Rattle.ld_json.specs.Tokens.{tree_read, items_read, members_read, text_read}

@@ -1,6 +1,6 @@
 -- The byte that is named begins the first number that isn't accepted.
-use Rattle.std.proofs.Common.{◌≡◌, ℕ, zero, suc, ◌+◌, ◌<◌, List, [], ◌∷◌, ◌++◌, map, drop, cond, Bool, true, false, Some, refl, sym, ap, ◌∙◌, subst, arith}
-use Rattle.std.specs.List.{AllByRecursion, list_all}
+use Rattle.std.proofs.Common.{◌≡◌, ℕ, zero, suc, ◌+◌, ◌<◌, List, [], ◌∷◌, ◌++◌, drop, cond, Bool, true, false, Some, refl, ap, ◌∙◌, arith}
+use Rattle.std.specs.List.{AllByRecursion}
 use Rattle.ld_json.specs.declared.numbers.Stand.{Stand}
 use Rattle.ld_json.specs.declared.numbers.Stand.TheVariants.{Outside}
 use Rattle.ld_json.specs.Numbers.{numbers, next, begins_number, word_of, is_accepted, first_refused}

@@ -1,9 +1,9 @@
 -- Values in which no number 1.1 was read.
-use Rattle.std.proofs.Common.{◌≡◌, ◌+◌, ◌&&◌, ℕ, List, [], ◌∷◌, ◌++◌, Bool, true, false, if◌then◌else◌, None, Option, refl, ap, ◌∙◌}
+use Rattle.std.proofs.Common.{◌≡◌, ◌+◌, ℕ, List, [], ◌∷◌, ◌++◌, Bool, true, false, if◌then◌else◌, None, Option, refl, ap}
 use Rattle.std.specs.List.{AllByRecursion}
-use Rattle.ld_model.specs.Tree.{Tree, null, truth, whole, one_one, text, array, object, Pairs, trees_of, members_of}
+use Rattle.ld_model.specs.Tree.{Tree, Pairs, trees_of, members_of}
 use Rattle.ld_json.specs.declared.location.Step.{Step}
-use Rattle.ld_json.specs.Marks.{misplaced, misplaced_items, misplaced_members, is_mark, is_version, under, or_else}
+use Rattle.ld_json.specs.Marks.{misplaced, misplaced_items, misplaced_members, is_version, under}
 use Rattle.ld_json.specs.Tokens.{HasNoMark}
 
 pub no_mark_items : (n : ℕ) (ts : List Tree) → AllByRecursion HasNoMark ts → misplaced_items n (trees_of ts) ≡ None

@@ -1,5 +1,5 @@
 -- Laws of the lists that trees are made of.
-use Rattle.std.proofs.Common.{◌≡◌, ℕ, zero, suc, ◌+◌, ◌-◌, ◌<◌, ◌≤◌, ◌&&◌, List, [], ◌∷◌, ◌++◌, length, get_or, take, drop, insert, set, refl, ap, ap₂, ◌∙◌, sym, subst, arith, true, false, Ok, Err, Some, None, Ordering, Less, Equal, Greater, Bool, take-append-drop, drop-cons, add-one}
+use Rattle.std.proofs.Common.{◌≡◌, ℕ, zero, suc, ◌+◌, ◌-◌, ◌<◌, ◌≤◌, List, [], ◌∷◌, ◌++◌, length, get_or, take, drop, insert, set, refl, ap, ap₂, ◌∙◌, sym, subst, arith, true, false, Ok, Err, Some, None, Ordering, Less, Equal, Greater, Bool, take-append-drop, drop-cons, add-one}
 use Rattle.std.proofs.lemmas.List.{map-append, length-map}
 use Rattle.std.specs.Prelude.{sum_by, remove, slice_get}
 use Rattle.std.proofs.lemmas.List.Sums.{sum_by-cons, sum_by_more_le}
@@ -13,6 +13,7 @@ use Rattle.std.proofs.lemmas.Cmp.{nat_list_cmp_total}
 use Rattle.std_collections.specs.Layout.BTreeMap.{seek, one_further}
 use Rattle.std_collections.specs.Layout.Columns.{set_value_at}
 use Rattle.std_collections.proofs.Seek.{seek_err, seek-Ok, insert_entry-Ok, insert_entry_err, sorted_insert, found_at, missing_at}
+use Rattle.ld_model.proofs.Truths.{and-false}
 use Rattle.ld_model.specs.Tree as model
 use Rattle.ld_model.specs.Tree.{weight, trees_weight, members_weight, same_tree, same_trees, same_members, trees_of, members_of, array, object, AreAscending, AreBefore, byte_order, is_last_before, member_at}
 use Rattle.ld_json.specs.declared.value.Tree.{Tree}
@@ -234,10 +235,6 @@ member_weighs ms i m within at =
     subst (λ (x : List ℕ × Tree). weight (view x.1) ≤ members_weight (members_of (members_view ms))) (sym at) (omega arith)
 
 -- Lists of different lengths aren't equal.
-and-false : (b : Bool) → (b && false) ≡ false
-and-false true = refl
-and-false false = refl
-
 pub same_trees-lengths : (xs ys : List Tree) → (length xs ≡ length ys → ⊥) → false ≡ same_trees (trees_of (trees_view xs)) (trees_of (trees_view ys))
 same_trees-lengths [] [] differ = absurd (differ refl)
 same_trees-lengths [] (y ∷ ys) differ = refl

@@ -1,10 +1,7 @@
-use Rattle.std.proofs.Common.{◌≡◌, [], ◌∷◌, Some, None, sym, ap, ◌∙◌, arith, rules}
+use Rattle.std.proofs.Common.{◌≡◌, [], sym, ◌∙◌, arith, rules}
 use Rattle.json.specs.Lex.{tokens}
 use Rattle.json.specs.Json.{value}
-use Rattle.serde_json.specs.Read.{converted}
-use Rattle.ld_json.specs.View.{view}
-use Rattle.ld_json.specs.Tokens.{tree_read}
-use Rattle.ld_json.proofs.Turns.{whole_read, whole_refused, whole_and_more}
+use Rattle.ld_json.proofs.Turns.{whole_read, whole_refused}
 use Rattle.ld_json.proofs.Knot.{text_read-whole}
 use Rattle.ld_json.proofs.by_tokens.read_all.Goals as goal
 

@@ -1,5 +1,4 @@
-use Rattle.std.proofs.Common.{◌≡◌, ◌∷◌, ◌++◌, ap, ◌∙◌, sym}
-use Rattle.ld_json.specs.View.{view}
+use Rattle.std.proofs.Common.{◌∙◌}
 use Rattle.ld_json.proofs.Walks.{before_next_entry}
 use Rattle.ld_json.proofs.value.Tree.+copy.Goals as goal
 
