@@ -1,4 +1,3 @@
 pub mod PlainDocument
 pub mod Nodes
-pub mod PlainLemmas
 pub mod Says

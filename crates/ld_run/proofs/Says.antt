@@ -1,12 +1,10 @@
 -- What is said where nothing is written.
-use Rattle.std.proofs.Common.{◌≡◌, ℕ, List, Option, inl, inr, ◌⊎◌, subst}
-use Rattle.ld_io.specs.Sinks.{AppendsFront}
+use Rattle.std.proofs.Common.{◌≡◌, ℕ, Option, inl, inr, ◌⊎◌, subst}
 use Rattle.ld_run.specs.declared.status.Status.{Status}
 use Rattle.ld_run.specs.declared.status.Status.TheVariants as status
 use Rattle.ld_run.specs.declared.document.Stop.{Stop}
 use Rattle.ld_run.specs.declared.document.Stop.TheVariants.{Refused, Usage, ReadFault, TooLarge, OutOfMemory}
 use Rattle.ld_run.specs.Out.{Out}
-use Rattle.ld_run.specs.Lines.{line_of}
 use Rattle.ld_run.specs.Stops.{status_of_stop, IsDueStop, CountsStop}
 use Rattle.ld_run.specs.Promise.{Sunk, MaySay, SaysFront, SaidAs}
 

@@ -8,7 +8,7 @@ ghost use Rattle.ld_model.specs.Keys.{default_graph};
 ghost use Rattle.ld_model.specs.Flatten.{graph_of, has_more, nodes_of, flatten};
 ghost use Rattle.ld_model.specs.NodeMap.{generate};
 ghost use Rattle.ld_model.specs.Plain.{is_plain, are_plain_items};
-ghost use Rattle.ld_json.specs.View.{view, members_view};
+ghost use Rattle.ld_json.specs.View.{view};
 ghost use Rattle.ld_json.specs.Read.{reading, reads};
 ghost use Rattle.ld_run.specs.Out.{Out, flat};
 ghost use Rattle.ld_run.specs.Stops.{IsStopOf};
@@ -16,7 +16,7 @@ ghost use Rattle.ld_run.specs.Stops.{IsStopOf};
 use crate::plain::is_plain;
 use crate::status::Refusal;
 use ld_json::{Members, ReadRefusal, Text, Tree, Trees, read_tree, text_of};
-use node_ops::{MapStop, NodeMap, node_map};
+use node_ops::{MapStop, NodeMap, into_node_map};
 use std::alloc::{AllocError, Global};
 
 /// Why there is nothing to write.
@@ -105,12 +105,12 @@ fn read(alloc: Global, bytes: &[u8]) -> Result<Tree, Stop>
     }
 }
 
-/// The flattened document (JSON-LD 1.1 API, section 7.1). The document is let go once its node map stands.
+/// The flattened document (JSON-LD 1.1 API, section 7.1). The document is taken apart for its node map.
 fn flattened(alloc: Global, items: Trees) -> Result<Trees, AllocError>
     requires { are_plain_items items ≡ true }
     ensures { IfOk result (λ nodes. nodes ≡ flatten (generate items).graphs) }
 {
-    let map = match node_map(alloc, &items) {
+    let map = match into_node_map(alloc, items) {
         Ok((map, _)) => map,
         Err(_) => return Err(AllocError),
     };
@@ -138,15 +138,20 @@ fn graph_of(alloc: Global, graph: Option<Tree>) -> Members
     }
 }
 
-/// The nodes of a graph in the order of their ids, but those with nothing but an id.
+/// The nodes of a graph in the order of their ids, but those with nothing but an id. They are moved.
 fn nodes_of(alloc: Global, graph: Members) -> Result<Trees, AllocError>
     ensures { IfOk result (λ nodes. nodes ≡ nodes_of graph) }
 {
-    let mut nodes = Trees::new(alloc);
-    for (_, node) in graph.into_vec() {
+    let mut nodes = Trees::with_capacity(alloc, outcome_len(&graph))?;
+    for (_, node) in graph {
         add_node(&mut nodes, node)?;
     }
     Ok(nodes)
+}
+
+/// How many nodes of a graph have more than their id, so that room is made for no others.
+fn outcome_len(graph: &Members) -> usize {
+    graph.iter().filter(|m| has_more(m.1)).count()
 }
 
 /// Appends a node, unless it has nothing but its id.

@@ -1,24 +1,24 @@
 // Whether a document is plain.
 ghost use Rattle.std.specs.Prelude.{◌≡◌};
 ghost use Rattle.ld_model.specs.Plain.{is_plain, is_plain_item, are_plain_items, is_plain_member, are_plain_members, is_plain_array, is_plain_entry, are_plain_entries, is_iri_text};
-ghost use Rattle.ld_json.specs.View.{view, trees_view, members_view};
-ghost use Rattle.ld_run.specs.PlainPair.{is_plain_pair};
+ghost use Rattle.ld_json.specs.View.{view};
+ghost use Rattle.ld_run.specs.PlainPair.{is_plain_pair, is_plain_object};
 
 use iri_ref::has_scheme;
-use ld_json::{Text, Tree};
+use ld_json::{Members, Text, Tree, Trees};
 
 /// Whether a document is an array of node objects with an id, whose properties have arrays of texts and references.
 pub(crate) fn is_plain(tree: &Tree) -> bool
     ensures { result ≡ is_plain (view tree.now) }
 {
     match tree {
-        Tree::Items(items) => are_plain_items(items.as_slice()),
+        Tree::Items(items) => are_plain_items(items),
         _ => false,
     }
 }
 
-fn are_plain_items(items: &[Tree]) -> bool
-    ensures { result ≡ are_plain_items (trees_view items.now) }
+fn are_plain_items(items: &Trees) -> bool
+    ensures { result ≡ are_plain_items items.now }
 {
     for item in items {
         if !is_plain_item(item) {
@@ -32,18 +32,16 @@ fn is_plain_item(item: &Tree) -> bool
     ensures { result ≡ is_plain_item (view item.now) }
 {
     match item {
-        Tree::Map(members) => {
-            members.get("@id").is_some() && are_plain_members(members.as_slice())
-        }
+        Tree::Map(members) => { members.get("@id").is_some() && are_plain_members(members) }
         _ => false,
     }
 }
 
-fn are_plain_members(members: &[(Text, Tree)]) -> bool
-    ensures { result ≡ are_plain_members (members_view members.now) }
+fn are_plain_members(members: &Members) -> bool
+    ensures { result ≡ are_plain_members members.now }
 {
-    for member in members {
-        if !is_plain_member(member) {
+    for (key, value) in members {
+        if !is_plain_member(key, value) {
             return false;
         }
     }
@@ -51,14 +49,13 @@ fn are_plain_members(members: &[(Text, Tree)]) -> bool
 }
 
 /// An id, or a property with its entries.
-fn is_plain_member(member: &(Text, Tree)) -> bool
-    ensures { result ≡ is_plain_member (member.now.0, view member.now.1) }
+fn is_plain_member(key: &Text, value: &Tree) -> bool
+    ensures { result ≡ is_plain_member (key.now, view value.now) }
 {
-    let key = member.0.as_str();
-    if key == "@id" {
-        is_iri_text(&member.1)
+    if key.as_str() == "@id" {
+        is_iri_text(value)
     } else {
-        has_scheme(key) && is_plain_array(&member.1)
+        has_scheme(key.as_str()) && is_plain_array(value)
     }
 }
 
@@ -75,13 +72,13 @@ fn is_plain_array(tree: &Tree) -> bool
     ensures { result ≡ is_plain_array (view tree.now) }
 {
     match tree {
-        Tree::Items(entries) => are_plain_entries(entries.as_slice()),
+        Tree::Items(entries) => are_plain_entries(entries),
         _ => false,
     }
 }
 
-fn are_plain_entries(entries: &[Tree]) -> bool
-    ensures { result ≡ are_plain_entries (trees_view entries.now) }
+fn are_plain_entries(entries: &Trees) -> bool
+    ensures { result ≡ are_plain_entries entries.now }
 {
     for entry in entries {
         if !is_plain_entry(entry) {
@@ -96,11 +93,21 @@ fn is_plain_entry(entry: &Tree) -> bool
     ensures { result ≡ is_plain_entry (view entry.now) }
 {
     match entry {
-        Tree::Map(members) => match members.as_slice() {
-            [(key, tree)] => is_plain_pair(key, tree),
-            _ => false,
-        },
+        Tree::Map(members) => is_plain_object(members),
         _ => false,
+    }
+}
+
+/// An object with one member.
+fn is_plain_object(members: &Members) -> bool
+    ensures { result ≡ is_plain_object members.now }
+{
+    if members.len() != 1 {
+        return false;
+    }
+    match members.at(0) {
+        Some((key, tree)) => is_plain_pair(key, tree),
+        None => false,
     }
 }
 
