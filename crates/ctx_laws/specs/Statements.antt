@@ -36,6 +36,7 @@ abbrev pub is_item : Tree → Bool
 is_item (array ts) = false
 is_item _ = true
 
+-- The item is null.
 abbrev pub is_null : Tree → Bool
 is_null null = true
 is_null _ = false
@@ -50,7 +51,7 @@ pub record MayBeParted (store : Contexts) (ask : Ask) (first second : List Tree)
   -- The call propagates, or the first part gives a context that remembers one: the second part begins with step 3 again.
   pub previous : (c : Context) → process store ask (array (trees_of first)) ≡ Ok c → (ask.propagates || not (is_empty c.earlier)) ≡ true
   -- Null looks for protected terms in the context that was handed in. So where it stands in the second part, and protected
-  -- terms may not be overridden, what the first part gives has protected terms just if the active context has.
+  -- terms may not be overridden, what the first part gives has protected terms exactly where the active context has.
   pub protection : (c : Context) → process store ask (array (trees_of first)) ≡ Ok c → list_any is_null second ≡ true → ask.overrides ≡ false → has_protected c.current.terms ≡ has_protected ask.active.current.terms
 
 -- How many of the entries have a key of which `defined` says nothing yet.
