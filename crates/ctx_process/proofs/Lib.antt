@@ -1,5 +1,1 @@
 pub mod ContextSteps
-pub mod Held
-pub mod Listed
-pub mod Steps
-pub mod Names

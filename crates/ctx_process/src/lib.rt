@@ -1,31 +1,16 @@
-//! Context processing and term creation (JSON-LD 1.1 API, sections 4.1 and 4.2).
+//! Context processing (JSON-LD 1.1 API, section 4.1).
 //!
 //! [`process`] gives the active context that a local context makes of another one, or the standard's error code. Its contract
-//! says that it is the definition in `specs/Process.antt`, which follows the standard step by step, with term creation in
-//! `specs/Creation.antt` and `specs/Definition.antt`, and IRI expansion with a local context in `specs/LocalExpansion.antt`.
+//! says that it is the definition `process` of `ctx_model`, which follows the standard step by step.
 //!
-//! Creating a term may need another term, whose creation is handed on as a closure; so no function but those of `processing`
-//! calls itself.
+//! Term creation is `ctx_terms`, which is handed a call that tries a scoped context. So the functions of `processing` that call
+//! themselves are those for items and for remote and scoped contexts.
+//!
+//! There is no `specs/` here: the contracts name steps of `ctx_model`, and `Answers` and the views of `ctx_entries`.
 #![tactic(auto)]
 
-mod container;
-mod creation;
-mod definition;
-mod expansion;
-mod finish;
-mod items;
-mod local;
-mod mapping;
+mod map;
 mod processing;
-mod remote;
-mod settings;
-mod start;
-mod state;
-mod stop;
-mod words;
 
+pub use ctx_entries::ContextStop;
 pub use processing::{Flags, process};
-pub use stop::ContextStop;
-
-#[cfg(test)]
-mod tests;

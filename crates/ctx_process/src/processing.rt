@@ -1,26 +1,21 @@
 // Context processing (JSON-LD 1.1 API, section 4.1.2).
-ghost use Rattle.std.specs.Prelude.{◌≡◌, ◌<◌, [], None, Result};
+ghost use Rattle.std.specs.Prelude.{◌≡◌, ◌≤◌, [], Result};
 ghost use Rattle.case_tables.specs.declared.code.Code.{Code};
 ghost use Rattle.ctx_types.specs.Context.{Context};
-ghost use Rattle.ld_json.specs.View.{view, trees_view};
+ghost use Rattle.ld_json.specs.View.{view};
 ghost use Rattle.ctx_types.specs.ContextView.{context_view};
-ghost use Rattle.ctx_process.specs.Answers.{Answers, Leaves, Tries};
 ghost use Rattle.ctx_model.specs.Process as steps;
-ghost use Rattle.ctx_model.specs.State as states;
-ghost use Rattle.ctx_process.specs.View.{ask_view, creation, entries_view, imports_view, local_view, pairs_view, remote_of, scoped_of, scoped_view, state_view, text_view, tree_view};
+ghost use Rattle.ctx_entries.specs.Answers.{Answers, Leaves, Tries};
+ghost use Rattle.ctx_entries.specs.Left.{in_call, processing, remote_in, scoped_in, with_scoped};
+ghost use Rattle.ctx_entries.specs.View.{ask_view, text_view};
 
-use crate::creation::create_new;
-use crate::items::{carried, is_known_version, is_term_key, nullify, propagates_in};
-use crate::local::{Ask, Entries, LocalContext};
-use crate::remote::{chain_with, import, load, resolve_by};
-use crate::settings::take_settings;
-use crate::state::{Marks, Progress};
-use crate::stop::ContextStop;
-use crate::words::{among, is_true};
+use crate::map::take_entries;
 use case_tables::Code;
+use ctx_entries::{Ask, ContextStop, Marks, Progress, among};
+use ctx_settings::{carried, chain_with, load, nullify, propagates_in, resolve_by};
 use ctx_store::Store;
 use ctx_types::ActiveContext;
-use ld_json::{Members, Text, Tree};
+use ld_json::{Members, Text, Tree, Trees};
 use std::alloc::Global;
 
 /// How many remote contexts a chain may have.
@@ -46,20 +41,25 @@ pub struct Flags {
 /// Processes a local context (JSON-LD 1.1 API, section 4.1.2): gives the active context that it makes of `active`.
 ///
 /// `local` is null, a text, a map, or an array of these, as it stands under `@context`. `base` is the base URL of the document
-/// or file that it stands in; a relative `@base`, `@import` or IRI of a context is resolved against it. Remote and imported
-/// contexts come from `store` alone, and their trees are not copied. It takes a time that grows with the size of the local
-/// context and with the contexts that it names; `active` is copied in constant time, and where the local context defines
-/// terms, with the number of its terms.
+/// or file that it stands in; a relative `@import` or IRI of a context is resolved against it, and a relative `@base` against
+/// the base IRI of the active context. Remote and imported contexts come from `store` alone, and their trees are not copied.
 ///
-/// A chain has at most 32 remote contexts, and at most 128 scoped contexts are under way.
+/// It takes a time that grows with the size of the local context and with that of the contexts that it names, and with the
+/// logarithm of the number of terms for each term that is created or looked up. `active` itself is copied in constant time.
+///
+/// # Limits
+///
+/// A chain has at most 32 remote contexts, and at most 128 scoped contexts are under way. At most 500 calls are under way, each
+/// for the sake of the one before: a term that is created, or a remote or scoped context that is processed. That is what the
+/// stack is sure to hold.
 ///
 /// # Errors
 ///
-/// - `Refused` exactly where the standard's algorithm ends in that error; the 33rd remote context of a chain is
+/// - `Refused` exactly where the definition ends in that error, but for want of memory. The 33rd remote context of a chain is
 ///   `context overflow`, the 129th scoped context under way is `invalid scoped context`, and an IRI without a scheme, or one
 ///   that the store doesn't have or has as unreadable, is `loading remote context failed`.
-/// - `OutOfMemory` where memory is refused, or where more than 500 terms and contexts would be under way, each for the sake
-///   of the one before.
+/// - `OutOfMemory` where memory is refused, and where the 501st call would be under way: such a context has an answer by the
+///   definition, and is counted as one for which there is no memory.
 #[tactic(auto, unfolding(ctx_model::specs::Process::process))]
 pub fn process(
     alloc: Global,
@@ -88,34 +88,51 @@ pub fn process(
 
 /// Processes a local context with what is left of the limits.
 #[cycle(contexts)]
-#[tactic(auto, unfolding(ctx_model::specs::Process::processed))]
 fn process_within(alloc: Global, ask: &Ask<'_>, local: &Tree) -> Result<ActiveContext, ContextStop>
-    ensures { Answers result context_view (steps.process_within ask.now.store.now ask.now.remote_left ask.now.scoped_left (ask_view ask.now) (view local.now)) }
+    ensures { Answers result context_view (processing ask.now (view local.now)) }
 {
     let propagates = propagates_in(ask.propagates, local);
     let context = carried(alloc, propagates, ask.active)?;
-    match local {
-        Tree::Items(items) => take_items(alloc, ask, items.as_slice(), propagates, context),
-        _ => take_item(alloc, ask, local, propagates, context),
-    }
+    let mut state = Progress {
+        context,
+        defined: Marks::new(alloc),
+    };
+    take_items(alloc, ask, local, propagates, &mut state)?;
+    Ok(state.context)
 }
 
-/// Takes the items of a local context in order: step 4.
+/// Takes the items of a local context: those of an array, or itself: step 4.
 #[cycle(contexts)]
 fn take_items(
     alloc: Global,
     ask: &Ask<'_>,
-    items: &[Tree],
+    local: &Tree,
     propagates: bool,
-    context: ActiveContext,
-) -> Result<ActiveContext, ContextStop>
-    ensures { Answers result context_view (steps.items_taken ask.now.store.now (λ a o. remote_of ask.now.store.now ask.now.remote_left ask.now.scoped_left a o) (λ a t. scoped_of ask.now.store.now ask.now.remote_left ask.now.scoped_left a t) propagates (ask_view ask.now) (trees_view items.now) (context_view context)) }
+    state: &mut Progress,
+) -> Result<(), ContextStop>
+    ensures { Leaves result (context_view state.new.context) (in_call ask.now steps.items_taken propagates (ask_view ask.now) (steps.items_of (view local.now)) (context_view state.old.context)) }
 {
-    let mut context = context;
-    for item in items {
-        context = take_item(alloc, ask, item, propagates, context)?;
+    match local {
+        Tree::Items(items) => take_each(alloc, ask, items, propagates, state),
+        _ => take_item(alloc, ask, local, propagates, state),
     }
-    Ok(context)
+}
+
+/// Takes items in their order: step 5.
+#[cycle(contexts)]
+fn take_each(
+    alloc: Global,
+    ask: &Ask<'_>,
+    items: &Trees,
+    propagates: bool,
+    state: &mut Progress,
+) -> Result<(), ContextStop>
+    ensures { Leaves result (context_view state.new.context) (in_call ask.now steps.items_taken propagates (ask_view ask.now) items.now (context_view state.old.context)) }
+{
+    for item in items {
+        take_item(alloc, ask, item, propagates, state)?;
+    }
+    Ok(())
 }
 
 /// Takes an item: null, the IRI of a remote context, or a map: step 5.
@@ -126,14 +143,14 @@ fn take_item(
     ask: &Ask<'_>,
     item: &Tree,
     propagates: bool,
-    context: ActiveContext,
-) -> Result<ActiveContext, ContextStop>
-    ensures { Answers result context_view (steps.item_taken ask.now.store.now (λ a o. remote_of ask.now.store.now ask.now.remote_left ask.now.scoped_left a o) (λ a t. scoped_of ask.now.store.now ask.now.remote_left ask.now.scoped_left a t) propagates (ask_view ask.now) (view item.now) (context_view context)) }
+    state: &mut Progress,
+) -> Result<(), ContextStop>
+    ensures { Leaves result (context_view state.new.context) (in_call ask.now steps.item_taken propagates (ask_view ask.now) (view item.now) (context_view state.old.context)) }
 {
     match item {
-        Tree::Null => nullify(alloc, ask, propagates, context),
-        Tree::Str(text) => take_remote(alloc, ask, text.as_str(), context),
-        Tree::Map(own) => take_map(alloc, ask, own, context),
+        Tree::Null => nullify(alloc, ask, propagates, &mut state.context),
+        Tree::Str(text) => take_remote(alloc, ask, text.as_str(), state),
+        Tree::Map(own) => take_map(alloc, ask, own, state),
         _ => Err(ContextStop::Refused(Code::InvalidLocalContext)),
     }
 }
@@ -145,15 +162,16 @@ fn take_remote(
     alloc: Global,
     ask: &Ask<'_>,
     text: &str,
-    context: ActiveContext,
-) -> Result<ActiveContext, ContextStop>
-    ensures { Answers result context_view (steps.remote_taken ask.now.store.now (λ a o. remote_of ask.now.store.now ask.now.remote_left ask.now.scoped_left a o) (ask_view ask.now) (steps.resolved_by (text_view ask.now.base) text.now) (context_view context)) }
+    state: &mut Progress,
+) -> Result<(), ContextStop>
+    ensures { Leaves result (context_view state.new.context) (steps.remote_taken ask.now.store.now (λ b o. remote_in ask.now b o) (ask_view ask.now) (steps.resolved_by (text_view ask.now.base) text.now) (context_view state.old.context)) }
 {
     let iri = resolve_by(alloc, ask.base, text)?;
     if !ask.validates && among(iri.as_str(), ask.remotes) {
-        return Ok(context);
+        return Ok(());
     }
-    process_remote(alloc, ask, &iri, &context)
+    state.context = process_remote(alloc, ask, &iri, &state.context)?;
+    Ok(())
 }
 
 /// Processes a remote context: steps 5.2.3 to 5.2.6.
@@ -164,7 +182,7 @@ fn process_remote(
     iri: &Text,
     context: &ActiveContext,
 ) -> Result<ActiveContext, ContextStop>
-    ensures { Answers result context_view (remote_of ask.now.store.now ask.now.remote_left ask.now.scoped_left (steps.remote_ask (ask_view ask.now) iri.now (context_view context.now)) (steps.loaded ask.now.store.now iri.now)) }
+    ensures { Answers result context_view (remote_in ask.now (steps.remote_ask (ask_view ask.now) iri.now (context_view context.now)) (steps.loaded ask.now.store.now iri.now)) }
 {
     if ask.remote_left == 0 {
         return Err(ContextStop::Refused(Code::ContextOverflow));
@@ -189,173 +207,41 @@ fn process_remote(
     process_within(alloc, &remote, local)
 }
 
-/// Takes a map: steps 5.5 to 5.13.
+/// Takes a map, whose terms may have scoped contexts that are tried: steps 5.5 to 5.13.
 #[cycle(contexts)]
-#[tactic(auto, unfolding(ctx_model::specs::Process::map_taken))]
 fn take_map(
     alloc: Global,
     ask: &Ask<'_>,
     own: &Members,
-    context: ActiveContext,
-) -> Result<ActiveContext, ContextStop>
-    ensures { Answers result context_view (steps.map_taken ask.now.store.now (λ a t. scoped_of ask.now.store.now ask.now.remote_left ask.now.scoped_left a t) (ask_view ask.now) own.now (context_view context)) }
-{
-    if !is_known_version(own.get("@version")) {
-        return Err(ContextStop::Refused(Code::InvalidVersionValue));
-    }
-    let imports = import(alloc, ask.store, ask.base, own.get("@import"))?;
-    let entries = Entries { own, imports };
-    let context = take_settings(alloc, ask.remotes, &entries, context)?;
-    create_terms(alloc, ask, &entries, context)
-}
-
-/// Creates the terms of a map, in the order of their keys: steps 5.12 and 5.13.
-#[cycle(contexts)]
-#[tactic(auto, unfolding(ctx_model::specs::Process::terms_taken))]
-fn create_terms(
-    alloc: Global,
-    ask: &Ask<'_>,
-    entries: &Entries<'_>,
-    context: ActiveContext,
-) -> Result<ActiveContext, ContextStop>
-    ensures { Answers result context_view (steps.terms_taken ask.now.store.now (λ a t. scoped_of ask.now.store.now ask.now.remote_left ask.now.scoped_left a t) (ask_view ask.now) (entries_view entries.now) (context_view context)) }
-{
-    let pairs = entries.all(alloc)?;
-    let local = LocalContext {
-        ask: &*ask,
-        entries: &*entries,
-        protected: is_true(entries.get("@protected")),
-        left: pairs.len(),
-        room: ask.room,
-    };
-    let mut state = Progress {
-        context,
-        defined: Marks::new(alloc),
-    };
-    create_each(alloc, &local, &mut state, pairs.as_slice())?;
-    Ok(state.context)
-}
-
-#[cycle(contexts)]
-fn create_each(
-    alloc: Global,
-    local: &LocalContext<'_>,
     state: &mut Progress,
-    pairs: &[(&Text, &Tree)],
 ) -> Result<(), ContextStop>
-    ensures { Leaves result (state_view state.new) (steps.terms_created (λ t v s. creation local.now t v s) (pairs_view pairs.now) (state_view state.old)) }
+    ensures { Leaves result (context_view state.new.context) (with_scoped ask.now steps.map_taken (ask_view ask.now) own.now (context_view state.old.context)) }
 {
-    for pair in pairs {
-        create_entry(alloc, local, state, pair.0.as_str(), pair.1)?;
-    }
-    Ok(())
+    let try_scoped = |room: u32, context: &ActiveContext, scoped: &Tree| -> Result<(), ContextStop>
+        ensures { Tries result (scoped_in ask.entry.now (context_view context.now) (view scoped.now)) }
+    { try_context(alloc, ask, room, context, scoped) };
+    take_entries(alloc, &try_scoped, ask, own, state)
 }
 
-/// Creates the term of an entry, where its key defines one.
-#[cycle(contexts)]
-fn create_entry(
-    alloc: Global,
-    local: &LocalContext<'_>,
-    state: &mut Progress,
-    key: &str,
-    value: &Tree,
-) -> Result<(), ContextStop>
-    ensures { Leaves result (state_view state.new) (steps.entry_created (λ t v s. creation local.now t v s) (key.now, view value.now) (state_view state.old)) }
-{
-    if is_term_key(key) {
-        create(alloc, local, state, key, value)
-    } else {
-        Ok(())
-    }
-}
-
-/// Creates a term, unless that was done already (JSON-LD 1.1 API, section 4.2.2): step 1.
-#[cycle(contexts)]
-fn create(
-    alloc: Global,
-    local: &LocalContext<'_>,
-    state: &mut Progress,
-    term: &str,
-    value: &Tree,
-) -> Result<(), ContextStop>
-    ensures { Leaves result (state_view state.new) (creation local.now term.now (view value.now) (state_view state.old)) }
-{
-    match state.defined.get(term) {
-        Some(done) => {
-            if done {
-                Ok(())
-            } else {
-                Err(ContextStop::Refused(Code::CyclicIriMapping))
-            }
-        }
-        None => {
-            if local.left == 0 {
-                return Err(ContextStop::Refused(Code::CyclicIriMapping));
-            }
-            if local.room == 0 {
-                return Err(ContextStop::OutOfMemory);
-            }
-            create_undefined(alloc, local, state, term, value)
-        }
-    }
-}
-
-/// Creates a term of which `defined` says nothing.
-#[cycle(contexts)]
-fn create_undefined(
-    alloc: Global,
-    local: &LocalContext<'_>,
-    state: &mut Progress,
-    term: &str,
-    value: &Tree,
-) -> Result<(), ContextStop>
-    requires left { 0 < local.now.left }
-    requires room { 0 < local.now.room }
-    requires undone { states.mark_of term.now (state_view state.old) ≡ None }
-    ensures { Leaves result (state_view state.new) (creation local.now term.now (view value.now) (state_view state.old)) }
-{
-    let below = LocalContext {
-        ask: &*local.ask,
-        entries: &*local.entries,
-        protected: local.protected,
-        left: local.left - 1,
-        room: local.room - 1,
-    };
-    let create_pending = |state: &mut Progress, term: &str, value: &Tree| -> Result<(), ContextStop>
-        ensures { Leaves result (state_view state.new) (creation below.entry term.now (view value.now) (state_view state.old)) }
-    { create(alloc, &below, state, term, value) };
-    let try_scoped = |context: &ActiveContext, scoped: &Tree| -> Result<(), ContextStop>
-        ensures { Tries result (scoped_view below.entry (context_view context.now) (view scoped.now)) }
-    { try_context(alloc, &below, context, scoped) };
-    create_new(
-        alloc,
-        &create_pending,
-        &try_scoped,
-        &below,
-        state,
-        term,
-        value,
-    )
-}
-
-/// Tries a scoped context (JSON-LD 1.1 API, section 4.2.2, step 21).
+/// Tries a scoped context (JSON-LD 1.1 API, section 4.2.2, step 21), where `room` more calls may be under way.
 #[cycle(contexts)]
 fn try_context(
     alloc: Global,
-    local: &LocalContext<'_>,
+    ask: &Ask<'_>,
+    room: u32,
     context: &ActiveContext,
     scoped: &Tree,
 ) -> Result<(), ContextStop>
-    ensures { Tries result (scoped_view local.now (context_view context.now) (view scoped.now)) }
+    ensures { Tries result (scoped_in ask.now (context_view context.now) (view scoped.now)) }
 {
-    let ask = local.ask;
     if ask.scoped_left == 0 {
         return Err(ContextStop::Refused(Code::InvalidScopedContext));
     }
-    if local.room == 0 {
+    let room = least(room, ask.room);
+    if room == 0 {
         return Err(ContextStop::OutOfMemory);
     }
-    let ask = Ask {
+    let inner = Ask {
         store: ask.store,
         active: &*context,
         base: ask.base,
@@ -365,9 +251,15 @@ fn try_context(
         validates: false,
         remote_left: ask.remote_left,
         scoped_left: ask.scoped_left - 1,
-        room: local.room - 1,
+        room: room - 1,
     };
-    tried(process_within(alloc, &ask, scoped))
+    tried(process_within(alloc, &inner, scoped))
+}
+
+fn least(a: u32, b: u32) -> u32
+    ensures { result ≤ b }
+{
+    if a < b { a } else { b }
 }
 
 /// Whether a context was processed, whatever it is.

@@ -1,0 +1,4 @@
+pub mod Carried
+pub mod Delimiters
+pub mod Held
+pub mod Listed
