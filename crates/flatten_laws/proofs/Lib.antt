@@ -1,6 +1,4 @@
 mod Examples
-pub mod Puts
-pub mod SameTree
 pub mod Once
 pub mod Entries
 pub mod Graph

@@ -24,7 +24,7 @@ use std::alloc::{AllocError, Global};
 /// How deep a text may nest.
 const MAX_DEPTH: usize = 127;
 
-/// How many values or members are so few that room for more is given back.
+/// How many values or members are so few that they are moved where they have no room for more.
 const FEW: usize = 2048;
 
 /// Why no tree was read.
@@ -192,8 +192,8 @@ fn read_items(
         let item = read(alloc, reader, seen, depth)?;
         push(&mut found, item)?;
     }
-    fit(&mut found);
-    Ok(Trees::from_vec(found))
+    let fitted = fit(alloc, found)?;
+    Ok(Trees::from_vec(fitted))
 }
 
 #[cycle(read)]
@@ -223,8 +223,8 @@ fn read_members(
         let member = read(alloc, reader, seen, depth)?;
         push(&mut found, (key, member))?;
     }
-    fit(&mut found);
-    Ok(Members::from_pairs(found)?)
+    let fitted = fit(alloc, found)?;
+    Ok(Members::from_pairs(fitted)?)
 }
 
 /// Puts an item behind the others. The room is made for 1, 2, 4 and so on, since most arrays and objects have one or two.
@@ -247,13 +247,17 @@ fn make_room<T>(found: &mut Vec<T>) -> Result<(), AllocError>
     found.reserve_exact(found.len().max(1))
 }
 
-/// Gives back the room that was made and isn't needed. Many small arrays would keep up to half of theirs, while a large one
-/// never touched it, and would have to be copied.
+/// The same in no more room than is needed. Many small arrays would keep up to half of theirs, and to cut it off would leave
+/// pieces that are too small for anything; a large one never touched it, and would have to be copied.
 #[inline(always)]
-fn fit<T>(found: &mut Vec<T>)
-    ensures { found.new.items ≡ found.old.items }
+fn fit<T: Drop>(alloc: Global, found: Vec<T>) -> Result<Vec<T>, AllocError>
+    ensures { IfOk result (λ v. v.items ≡ found.items) }
 {
-    if found.capacity() <= FEW {
-        found.shrink_to_fit();
+    let mut found = found;
+    if found.len() == found.capacity() || found.capacity() > FEW {
+        return Ok(found);
     }
+    let mut exact = Vec::with_capacity(alloc, found.len())?;
+    exact.append(&mut found)?;
+    Ok(exact)
 }

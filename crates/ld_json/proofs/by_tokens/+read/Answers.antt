@@ -139,7 +139,7 @@ read_items-returns-clause-ok t c =
     let l = c.items in
     let n = l.invariant.0 in
     let r = c.take_end_array.new.self in
-    l.invariant.2 ∙ ap (parse_map (λ ts. trees_view l.found.items ++ ts)) (items_over p n l.reader r l.invariant.1 (grind arith)) ∙ ap (λ ds. Some (ds, r)) (append-nil (trees_view l.found.items) ∙ ap trees_view (sym c.fit.ensures) ∙ sym c.from_vec.ensures)
+    l.invariant.2 ∙ ap (parse_map (λ ts. trees_view l.found.items ++ ts)) (items_over p n l.reader r l.invariant.1 (grind arith)) ∙ ap (λ ds. Some (ds, r)) (append-nil (trees_view l.found.items) ∙ ap trees_view (sym c.in_ok-fitted.ensures) ∙ sym c.from_vec.ensures)
 
 pub read_items-returns-clause-accepted : goal.read_items-returns-clause-accepted
 read_items-returns-clause-accepted t c =
@@ -203,7 +203,7 @@ read_members-returns-clause-ok t c =
     let l = c.members in
     let n = l.invariant.0 in
     let r = c.next_key.new.self in
-    l.invariant.2 ∙ members_over p (built (members_view l.found.items)) n l.reader r l.invariant.1 (grind arith) ∙ ap (λ ms. Some (ms, r)) (ap (λ (es : List (List ℕ × Tree)). built (members_view es)) (sym c.fit.ensures) ∙ sym c.in_ok-from_pairs.ensures)
+    l.invariant.2 ∙ members_over p (built (members_view l.found.items)) n l.reader r l.invariant.1 (grind arith) ∙ ap (λ ms. Some (ms, r)) (ap (λ (es : List (List ℕ × Tree)). built (members_view es)) (sym c.in_ok-fitted.ensures) ∙ sym c.in_ok-from_pairs.ensures)
 
 pub read-returns-in_ok-read_items-in-BeginArray-clause-unmarked : goal.read-returns-in_ok-read_items-in-BeginArray-clause-unmarked
 read-returns-in_ok-read_items-in-BeginArray-clause-unmarked t c up =
@@ -219,4 +219,4 @@ pub read_members-returns-clause-unmarked : goal.read_members-returns-clause-unma
 read_members-returns-clause-unmarked t c up =
     let l = c.members in
     let rest = l.invariant.5 up in
-    (rest.0, subst (AllByRecursion (λ m. HasNoMark m.1)) (ap (λ (es : List (List ℕ × Tree)). built (members_view es)) (sym c.fit.ensures) ∙ sym c.in_ok-from_pairs.ensures) (all-built (λ m. HasNoMark m.1) (members_view l.found.items) [] tt rest.1))
+    (rest.0, subst (AllByRecursion (λ m. HasNoMark m.1)) (ap (λ (es : List (List ℕ × Tree)). built (members_view es)) (sym c.in_ok-fitted.ensures) ∙ sym c.in_ok-from_pairs.ensures) (all-built (λ m. HasNoMark m.1) (members_view l.found.items) [] tt rest.1))

@@ -1,2 +1,0 @@
--- Passed on to `ctx_types` alone.
-pub use Rattle.ld_model.proofs.Puts.{bytes_eq-exact}
