@@ -196,23 +196,3 @@ fn code_at(number: u16) -> Option<Code>
 {
     CODES.get(usize::from(number)).copied()
 }
-
-#[cfg(test)]
-mod tests {
-    use super::*;
-
-    // Each code is found again by its own name.
-    fn found_again(code: Code) -> Option<Code>
-        ensures { result ≡ Some code }
-    {
-        code_of(code.name())
-    }
-
-    #[test]
-    fn a_code_is_found_by_its_whole_name(rt: HostRuntime) {
-        let code = Code::CollidingKeywords;
-        assert_eq!(rt; found_again(code), Some(code));
-        assert_eq!(rt; code_of("colliding keywords"), Some(code));
-        assert_eq!(rt; code_of("colliding"), None);
-    }
-}

@@ -80,16 +80,3 @@ fn datatype_at(number: u16) -> Option<Datatype>
 {
     DATATYPES.get(usize::from(number)).copied()
 }
-
-#[cfg(test)]
-mod tests {
-    use super::*;
-
-    #[test]
-    fn a_datatype_is_found_by_its_iri(rt: HostRuntime) {
-        let iri = "http://www.w3.org/1999/02/22-rdf-syntax-ns#JSON";
-        assert_eq!(rt; datatype_of(iri), Some(Datatype::RdfJson));
-        assert_eq!(rt; Datatype::RdfJson.name(), iri);
-        assert_eq!(rt; datatype_of("http://www.w3.org/2001/XMLSchema#date"), None);
-    }
-}

@@ -131,22 +131,3 @@ fn keyword_at(number: u16) -> Option<Keyword>
 {
     KEYWORDS.get(usize::from(number)).copied()
 }
-
-#[cfg(test)]
-mod tests {
-    use super::*;
-
-    #[test]
-    fn a_keyword_is_found_by_its_whole_name(rt: HostRuntime) {
-        let cases = [
-            ("@type", Some(Keyword::TypeWord)),
-            ("@none", Some(Keyword::NoneWord)),
-            ("@default", None),
-            ("type", None),
-        ];
-        for (text, keyword) in cases {
-            assert_eq!(rt; keyword_of(text), keyword, "{text}");
-        }
-        assert_eq!(rt; Keyword::TypeWord.name(), "@type");
-    }
-}

@@ -108,32 +108,3 @@ pub fn container_shape(words: &[Keyword]) -> Option<Shape>
         None
     }
 }
-
-#[cfg(test)]
-mod tests {
-    use super::*;
-    use crate::Keyword::{Graph, Id, List, Set};
-
-    #[test]
-    fn the_words_of_a_container_make_its_shape(rt: HostRuntime) {
-        let graph_set = Shape {
-            graph: true,
-            id: true,
-            set: true,
-            ..Shape::none()
-        };
-        let cases = [
-            (
-                "three words in any order",
-                [Set, Graph, Id].as_slice(),
-                Some(graph_set),
-            ),
-            ("a list is in no set", [List, Set].as_slice(), None),
-            ("no word at all", [].as_slice(), None),
-            ("a word twice", [Set, Set].as_slice(), None),
-        ];
-        for (name, words, shape) in cases {
-            assert_eq!(rt; container_shape(words), shape, "{name}");
-        }
-    }
-}

@@ -83,26 +83,3 @@ fn name_beside(rows: &[Row], number: u16) -> Option<&'static str>
     }
     None
 }
-
-#[cfg(test)]
-mod tests {
-    use super::*;
-
-    #[test]
-    fn a_table_goes_both_ways(rt: HostRuntime) {
-        let table: Table<2> = Table::of(&[
-            Row {
-                name: "left",
-                number: 7,
-            },
-            Row {
-                name: "right",
-                number: 3,
-            },
-        ]);
-        assert_eq!(rt; table.find("right"), Some(3));
-        assert_eq!(rt; table.find("up"), None);
-        assert_eq!(rt; table.name_of(7), Some("left"));
-        assert_eq!(rt; table.name_of(8), None);
-    }
-}

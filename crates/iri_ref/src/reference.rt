@@ -164,36 +164,3 @@ fn is_iri_byte(byte: u8) -> bool
         0..=b' ' | b'<' | b'>' | b'"' | b'{' | b'}' | b'|' | b'^' | b'`' | b'\\'
     )
 }
-
-#[cfg(test)]
-mod tests {
-    use super::*;
-
-    #[test]
-    fn the_parts_of_the_example_of_rfc_3986(rt: HostRuntime) {
-        let parts = split("http://www.ics.uci.edu/pub/ietf/uri/#Related");
-        assert_eq!(rt; parts.scheme, Some("http"));
-        assert_eq!(rt; parts.authority, Some("www.ics.uci.edu"));
-        assert_eq!(rt; parts.path, "/pub/ietf/uri/");
-        assert_eq!(rt; parts.query, None);
-        assert_eq!(rt; parts.fragment, Some("Related"));
-    }
-
-    #[test]
-    fn the_form_of_an_iri(rt: HostRuntime) {
-        let cases = [
-            ("http://e/a", true, true),
-            ("urn+1.0-b:x", true, true),
-            ("http://e/a b", true, false),
-            ("x:{y}", true, false),
-            ("1x:y", false, false),
-            ("a/b:c", false, false),
-            (":a", false, false),
-            ("a", false, false),
-        ];
-        for (text, scheme, well_formed) in cases {
-            assert_eq!(rt; has_scheme(text), scheme, "{text}");
-            assert_eq!(rt; is_well_formed(text), well_formed, "{text}");
-        }
-    }
-}

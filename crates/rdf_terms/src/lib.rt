@@ -8,8 +8,6 @@ mod language;
 mod laws;
 mod number;
 mod term;
-#[cfg(test)]
-mod tests;
 
 pub use language::is_language_tag;
 pub use laws::{double_text_cuts_only_zeros, valid_quads_are_named};
