@@ -25,6 +25,3 @@ pub use map_folder::MapFolder;
 pub use streams::{StdSink, StdSource};
 pub use traits::{Failed, Folder, FolderStop, Sink, Source};
 pub use whole::{LIMIT, ReadStop, read_to_end, write_all, write_and_finish};
-
-#[cfg(test)]
-mod tests;

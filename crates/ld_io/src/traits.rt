@@ -11,17 +11,21 @@ ghost use Rattle.ld_io.specs.Sinks.{TakesSome, IsFinished, WriteUnfinishes};
 ghost use Rattle.ld_io.specs.Files.{IsFileAt};
 
 use std::alloc::Global;
+use thiserror::Error;
 
 /// A fault of the outside: the real thing, or what stands for it, answered an error.
-#[derive(Clone, Copy, Debug, PartialEq, Eq)]
+#[derive(Clone, Copy, Debug, PartialEq, Eq, Error)]
+#[error("fault")]
 pub struct Failed;
 
 /// Why [`Folder::read`] gave no answer.
-#[derive(Clone, Copy, Debug, PartialEq, Eq)]
+#[derive(Clone, Copy, Debug, PartialEq, Eq, Error)]
 pub enum FolderStop {
     /// The folder failed, and its count of faults rose.
+    #[error("folder fault")]
     Failed,
     /// There was no memory for the file's bytes.
+    #[error("out of memory")]
     OutOfMemory,
 }
 

@@ -8,6 +8,7 @@ ghost use Rattle.ld_io.specs.Sources.{Gathers, TakesFront};
 
 use super::traits::{Failed, Sink, Source};
 use std::alloc::{AllocError, Global};
+use thiserror::Error;
 
 /// The greatest number of bytes that an input may have: 256 MiB.
 pub const LIMIT: usize = 268_435_456;
@@ -16,13 +17,16 @@ pub const LIMIT: usize = 268_435_456;
 const BUFFER: usize = 65_536;
 
 /// Why [`read_to_end`] gave no bytes.
-#[derive(Clone, Copy, Debug, PartialEq, Eq)]
+#[derive(Clone, Copy, Debug, PartialEq, Eq, Error)]
 pub enum ReadStop {
     /// The source failed, and its count of faults rose.
+    #[error("read fault")]
     Failed,
     /// The source had more than [`LIMIT`] bytes.
+    #[error("input too large")]
     TooLarge,
     /// There was no memory for the bytes.
+    #[error("out of memory")]
     OutOfMemory,
 }
 
