@@ -6,12 +6,12 @@
 
 mod place;
 mod runs;
+mod saying;
 mod state;
-#[cfg(test)]
-mod tests;
 
 pub use runs::every_closed_run;
 pub use state::JobState;
+use thiserror::Error;
 
 /// A step of the machine. Seats, pieces and shards go by number, from 0 on.
 #[derive(Clone, Copy, Debug, PartialEq, Eq)]
@@ -56,9 +56,12 @@ pub enum Kept {
 }
 
 /// A step that was refused, and why.
-#[derive(Clone, Copy, Debug, PartialEq, Eq)]
+#[derive(Clone, Copy, Debug, PartialEq, Eq, Error)]
+#[error("{step:?} is not allowed: {kept}")]
 pub struct NotAllowed {
+    /// The step.
     pub step: JobStep,
+    /// What the first guard that failed found.
     pub kept: Kept,
 }
 

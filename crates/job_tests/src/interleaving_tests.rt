@@ -5,7 +5,7 @@
 // The runs are counted by length: each state that runs of one length reach is made anew and takes every allowed step.
 ghost use Rattle.std.specs.Prelude.{◌<◌, ◌≤◌};
 
-use crate::{JobState, JobStep, Outcome};
+use job_core::{JobState, JobStep, Outcome};
 use std::alloc::Global;
 use std::collections::BTreeMap;
 use std::process::Abort;
@@ -172,12 +172,9 @@ fn runs_that_end<R: Abort>(rt: &R, alloc: Global, failing: u32) -> Result<u64, F
 // The counts are those of another program, written from the table of guards and effects.
 #[test]
 fn every_interleaving_ends_as_the_theorem_says(rt: HostRuntime) -> Result<(), Fail> {
-    for (failing, count) in [(0, 918_324_256), (1, 294_715_456), (2, 97_827_840)] {
-        assert_eq!(rt;
-            runs_that_end(&rt, rt.alloc(), failing)?,
-            count,
-            "piece {failing} fails"
-        );
+    for (failing, count) in &[(0, 918_324_256), (1, 294_715_456), (2, 97_827_840)] {
+        let ended = runs_that_end(&rt, rt.alloc(), *failing)?;
+        assert_eq!(rt; ended, *count, "piece {failing} fails");
     }
     Ok(())
 }
