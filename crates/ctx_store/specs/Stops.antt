@@ -2,9 +2,17 @@
 use Rattle.std.specs.Prelude.{ℕ, ◌≡◌, List, Option, Some, Result, MatchResult, ⊤}
 use Rattle.std.specs.Option.{option_map_or}
 use Rattle.ld_io.specs.Faults.{Rose}
+use Rattle.ld_io.specs.declared.traits.FolderStop.{FolderStop}
+use Rattle.ld_io.specs.declared.traits.FolderStop.TheVariants.{Failed}
+use Rattle.ld_io.specs.declared.traits.FolderStop.TheVariants as stop
 use Rattle.ctx_store.specs.Stored.{Contexts, Stored, holds, index_line, missing, with_file}
 use Rattle.ctx_store.specs.declared.store.StoreRefusal.{StoreRefusal}
 use Rattle.ctx_store.specs.declared.store.StoreRefusal.TheVariants.{IndexLine, Missing, FolderFault, OutOfMemory}
+
+-- What a stop of the folder is to the store.
+abbrev pub refusal_of_stop : FolderStop → StoreRefusal
+refusal_of_stop Failed = FolderFault
+refusal_of_stop stop.OutOfMemory = OutOfMemory
 
 -- When each refusal may come, given what the folder holds: `FolderFault` by the count of faults alone, and `OutOfMemory`
 -- at any time.

@@ -11,6 +11,3 @@ mod index;
 mod store;
 
 pub use store::{Loaded, Store, StoreRefusal, load};
-
-#[cfg(test)]
-mod tests;

@@ -18,6 +18,7 @@ use ld_json::{ReadRefusal, Tree, read_tree};
 use std::alloc::{AllocError, Global};
 use std::collections::BTreeMap;
 use std::marker::Model;
+use thiserror::Error;
 
 /// The file of an IRI.
 #[derive(Drop)]
@@ -29,21 +30,25 @@ pub enum Loaded {
 }
 
 /// Why a folder gives no store.
-#[derive(Clone, Copy, Debug, PartialEq, Eq)]
+#[derive(Clone, Copy, Debug, PartialEq, Eq, Error)]
 pub enum StoreRefusal {
     /// A line of the index breaks its rule.
+    #[error("context index line {line}")]
     IndexLine {
         /// The number of the first such line, counted from 1.
         line: u64,
     },
     /// A line of the index names a file that is not there.
+    #[error("missing context file at index line {line}")]
     Missing {
         /// The number of the first such line, counted from 1.
         line: u64,
     },
     /// The folder failed, and its count of faults rose.
+    #[error("folder fault")]
     FolderFault,
     /// Memory was refused.
+    #[error("out of memory")]
     OutOfMemory,
 }
 
@@ -54,6 +59,19 @@ impl From<AllocError> for StoreRefusal {
 
     fn from(_error: AllocError) -> StoreRefusal {
         StoreRefusal::OutOfMemory
+    }
+}
+
+impl From<FolderStop> for StoreRefusal {
+    ghost use Rattle.ctx_store.specs.Stops.{refusal_of_stop};
+
+    ghost from_gives = { λ stop e. e ≡ refusal_of_stop stop };
+
+    fn from(stop: FolderStop) -> StoreRefusal {
+        match stop {
+            FolderStop::Failed => StoreRefusal::FolderFault,
+            FolderStop::OutOfMemory => StoreRefusal::OutOfMemory,
+        }
     }
 }
 
@@ -130,11 +148,7 @@ fn read_file<F: Folder>(
     ensures refusal { IfErr result IsReadRefusal }
     ensures faults { CountsStoreFaults (F.faults folder.old) (F.faults folder.new) result }
 {
-    match folder.read(alloc, name) {
-        Ok(found) => Ok(found),
-        Err(FolderStop::Failed) => Err(StoreRefusal::FolderFault),
-        Err(FolderStop::OutOfMemory) => Err(StoreRefusal::OutOfMemory),
-    }
+    Ok(folder.read(alloc, name)?)
 }
 
 /// Reads the file of one line into the store.

@@ -21,6 +21,3 @@ pub use expansion::{
 };
 pub use shared::Shared;
 pub use terms::Terms;
-
-#[cfg(test)]
-mod tests;

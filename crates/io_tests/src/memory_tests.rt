@@ -103,3 +103,11 @@ fn no_bytes_are_written_without_a_call(rt: HostRuntime) -> Result<(), Fail> {
     assert!(rt; sink.write(b"a") == Err(Failed));
     Ok(())
 }
+
+#[test]
+fn stops_are_said_in_words(rt: HostRuntime) -> Result<(), Fail> {
+    let (folder, read) = (FolderStop::Failed, ReadStop::TooLarge);
+    let said = format!(in rt.alloc(); "{}; {folder}; {read}", Failed)?;
+    assert!(rt; said.as_str() == "fault; folder fault; input too large");
+    Ok(())
+}

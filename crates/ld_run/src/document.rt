@@ -15,6 +15,7 @@ ghost use Rattle.ld_run.specs.Stops.{IsStopOf};
 
 use crate::plain::is_plain;
 use crate::status::Refusal;
+use ld_io::ReadStop;
 use ld_json::{Members, ReadRefusal, Text, Tree, Trees, read_tree, text_of};
 use node_ops::{MapStop, NodeMap, into_node_map};
 use std::alloc::{AllocError, Global};
@@ -36,6 +37,35 @@ impl From<AllocError> for Stop {
 
     fn from(_error: AllocError) -> Stop {
         Stop::OutOfMemory
+    }
+}
+
+impl From<ReadStop> for Stop {
+    ghost use Rattle.ld_run.specs.Stops.{stop_of_read};
+
+    ghost from_gives = { λ read stop. stop ≡ stop_of_read read };
+
+    fn from(read: ReadStop) -> Stop {
+        match read {
+            ReadStop::Failed => Stop::ReadFault,
+            ReadStop::TooLarge => Stop::TooLarge,
+            ReadStop::OutOfMemory => Stop::OutOfMemory,
+        }
+    }
+}
+
+impl From<ReadRefusal> for Stop {
+    ghost use Rattle.ld_run.specs.Stops.{stop_of_refusal};
+
+    ghost from_gives = { λ refusal stop. stop ≡ stop_of_refusal refusal };
+
+    fn from(refusal: ReadRefusal) -> Stop {
+        match refusal {
+            ReadRefusal::Syntax => Stop::Refused(Refusal::Syntax),
+            ReadRefusal::Number { at } => Stop::Refused(Refusal::Number { at }),
+            ReadRefusal::VersionNumber { place } => Stop::Refused(Refusal::VersionNumber { place }),
+            ReadRefusal::OutOfMemory => Stop::OutOfMemory,
+        }
     }
 }
 
@@ -94,15 +124,8 @@ fn array_items(tree: Tree) -> Option<Trees>
 fn read(alloc: Global, bytes: &[u8]) -> Result<Tree, Stop>
     ensures { MatchResult result (λ t. reading bytes.now ≡ reads (view t)) (λ stop. IsStopOf stop (flat bytes.now)) }
 {
-    match read_tree(alloc, bytes) {
-        Ok(tree) => Ok(tree),
-        Err(ReadRefusal::Syntax) => Err(Stop::Refused(Refusal::Syntax)),
-        Err(ReadRefusal::Number { at }) => Err(Stop::Refused(Refusal::Number { at })),
-        Err(ReadRefusal::VersionNumber { place }) => {
-            Err(Stop::Refused(Refusal::VersionNumber { place }))
-        }
-        Err(ReadRefusal::OutOfMemory) => Err(Stop::OutOfMemory),
-    }
+    let tree = read_tree(alloc, bytes)?;
+    Ok(tree)
 }
 
 /// The flattened document (JSON-LD 1.1 API, section 7.1). The document is taken apart for its node map.

@@ -7,10 +7,8 @@
 mod document;
 mod plain;
 mod run;
+mod saying;
 mod status;
 
 pub use run::run_alone;
 pub use status::{OUT_OF_MEMORY, Refusal, Status};
-
-#[cfg(test)]
-mod tests;

@@ -10,7 +10,7 @@ ghost use Rattle.ld_run.specs.Lines.{line_of};
 
 use crate::document::{Stop, flattened_text};
 use crate::status::{OUT_OF_MEMORY, Status, WRITE_FAULT};
-use ld_io::{Folder, ReadStop, Sink, Source, read_to_end, write_and_finish};
+use ld_io::{Folder, Sink, Source, read_to_end, write_and_finish};
 use std::alloc::Global;
 
 /// Does all that the program does, on one thread: reads the words, reads the source to its end, and writes what is due
@@ -91,12 +91,7 @@ fn due_text<S: Source>(alloc: Global, words: &[String], source: &mut S) -> Resul
     if !is_flatten(words) {
         return Err(Stop::Usage);
     }
-    let bytes = match read_to_end(alloc, source) {
-        Ok(bytes) => bytes,
-        Err(ReadStop::Failed) => return Err(Stop::ReadFault),
-        Err(ReadStop::TooLarge) => return Err(Stop::TooLarge),
-        Err(ReadStop::OutOfMemory) => return Err(Stop::OutOfMemory),
-    };
+    let bytes = read_to_end(alloc, source)?;
     flattened_text(alloc, bytes)
 }
 

@@ -10,9 +10,19 @@ use std::borrow::CowStr;
 /// The line of `Status::OutOfMemory`, which needs no memory.
 pub const OUT_OF_MEMORY: &str = "error: out of memory\n";
 
+pub(crate) const USAGE: &str = "error: usage\n";
+
+pub(crate) const READ_FAULT: &str = "error: read fault\n";
+
 pub(crate) const WRITE_FAULT: &str = "error: write fault\n";
 
-/// Why an input gives nothing to write.
+pub(crate) const TOO_LARGE: &str = "error: input too large\n";
+
+pub(crate) const SYNTAX: &str = "error: syntax\n";
+
+pub(crate) const NOT_BUILT: &str = "error: not built\n";
+
+/// Why an input gives nothing to write. It is printed as its line says it, without `error: ` and the line feed.
 #[derive(Debug, Drop)]
 pub enum Refusal {
     /// The input is no JSON text: no UTF-8, not the grammar of RFC 8259, or nested more than 127 deep.
@@ -32,7 +42,8 @@ pub enum Refusal {
     NotBuilt,
 }
 
-/// How a call of the program ended.
+/// How a call of the program ended. It is printed as its line says it, without `error: ` and the line feed; `Done` as
+/// `done`.
 #[derive(Debug, Drop)]
 pub enum Status {
     /// The due bytes were written and the output was finished.
@@ -75,10 +86,10 @@ impl Status {
         let line = match self {
             Status::Done => "",
             Status::Refused(refusal) => return refusal.line(alloc),
-            Status::Usage => "error: usage\n",
-            Status::ReadFault => "error: read fault\n",
+            Status::Usage => USAGE,
+            Status::ReadFault => READ_FAULT,
             Status::WriteFault => WRITE_FAULT,
-            Status::TooLarge => "error: input too large\n",
+            Status::TooLarge => TOO_LARGE,
             Status::OutOfMemory => OUT_OF_MEMORY,
         };
         Ok(CowStr::Borrowed(line))
@@ -90,7 +101,7 @@ impl Refusal {
         ensures { IfOk result (λ line. cow_str_bytes line ≡ refusal_line self.now) }
     {
         match self {
-            Refusal::Syntax => Ok(CowStr::Borrowed("error: syntax\n")),
+            Refusal::Syntax => Ok(CowStr::Borrowed(SYNTAX)),
             Refusal::Number { at } => {
                 let line = format!(in alloc; "error: number at byte {at}\n")?;
                 Ok(CowStr::Owned(line))
@@ -100,7 +111,7 @@ impl Refusal {
                 let line = format!(in alloc; "error: version number at {}\n", pointer.as_str())?;
                 Ok(CowStr::Owned(line))
             }
-            Refusal::NotBuilt => Ok(CowStr::Borrowed("error: not built\n")),
+            Refusal::NotBuilt => Ok(CowStr::Borrowed(NOT_BUILT)),
         }
     }
 }

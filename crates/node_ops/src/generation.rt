@@ -12,6 +12,7 @@ use crate::graph::{Graph, ensure_node, gather_members, id_of, nodes_of};
 use ld_json::{Members, Text, Tree, Trees};
 use std::alloc::{AllocError, Global};
 use std::collections::BTreeMap;
+use thiserror::Error;
 
 /// What node map generation gives: for each name of a graph its nodes, each at its id. The default graph's name is
 /// `@default`.
@@ -22,7 +23,8 @@ pub struct NodeMap {
 }
 
 /// Two different `@index` of one node (JSON-LD 1.1 API, section 7.2, step 6.9).
-#[derive(Drop)]
+#[derive(Debug, Drop, Error)]
+#[error("conflicting indexes at {}", .node.as_str())]
 pub struct Conflict {
     /// The node's id.
     pub node: Text,
@@ -33,11 +35,13 @@ pub struct Conflict {
 }
 
 /// Why there is no node map.
-#[derive(Drop)]
+#[derive(Debug, Drop, Error)]
 pub enum MapStop {
     /// Two different indexes of one node. A plain document has none.
+    #[error(transparent)]
     Conflict(Conflict),
     /// Memory was refused.
+    #[error("out of memory")]
     OutOfMemory,
 }
 
@@ -157,6 +161,3 @@ fn ensure_target(alloc: Global, graph: &mut Graph, entry: &Tree) -> Result<(), A
         _ => Ok(()),
     }
 }
-
-#[cfg(test)]
-mod tests;

@@ -1,0 +1,67 @@
+// Statuses and refusals in words, which are those of their lines.
+use crate::status::{
+    NOT_BUILT, OUT_OF_MEMORY, READ_FAULT, Refusal, SYNTAX, Status, TOO_LARGE, USAGE, WRITE_FAULT,
+};
+use ld_json::{Place, Step};
+use std::error::Error;
+use std::fmt;
+
+// What a line says between `error: ` and its line feed.
+fn words(line: &str) -> &str {
+    let behind = line.strip_prefix("error: ").unwrap_or(line);
+    behind.strip_suffix('\n').unwrap_or(behind)
+}
+
+impl fmt::Display for Status {
+    fn fmt<W: fmt::Write>(&self, f: &mut fmt::Formatter<W>) -> fmt::Result {
+        match self {
+            Status::Done => f.write_str("done"),
+            Status::Refused(refusal) => refusal.fmt(f),
+            Status::Usage => f.write_str(words(USAGE)),
+            Status::ReadFault => f.write_str(words(READ_FAULT)),
+            Status::WriteFault => f.write_str(words(WRITE_FAULT)),
+            Status::TooLarge => f.write_str(words(TOO_LARGE)),
+            Status::OutOfMemory => f.write_str(words(OUT_OF_MEMORY)),
+        }
+    }
+}
+
+impl fmt::Display for Refusal {
+    fn fmt<W: fmt::Write>(&self, f: &mut fmt::Formatter<W>) -> fmt::Result {
+        match self {
+            Refusal::Syntax => f.write_str(words(SYNTAX)),
+            Refusal::Number { at } => write!(f, "number at byte {at}"),
+            Refusal::VersionNumber { place } => write_version_number(place, f),
+            Refusal::NotBuilt => f.write_str(words(NOT_BUILT)),
+        }
+    }
+}
+
+impl Error for Refusal {}
+
+// The place is written as its pointer, without the memory that `pointer_of` takes.
+fn write_version_number<W: fmt::Write>(place: &Place, f: &mut fmt::Formatter<W>) -> fmt::Result {
+    f.write_str("version number at ")?;
+    if place.len() == 0 {
+        return f.write_str("the root");
+    }
+    for step in place.as_slice() {
+        match step {
+            Step::Key(key) => write_key(key.as_str(), f)?,
+            Step::Item(number) => write!(f, "/{number}")?,
+        }
+    }
+    Ok(())
+}
+
+fn write_key<W: fmt::Write>(key: &str, f: &mut fmt::Formatter<W>) -> fmt::Result {
+    f.write_str("/")?;
+    for character in key.chars() {
+        match character {
+            '~' => f.write_str("~0")?,
+            '/' => f.write_str("~1")?,
+            _ => f.write_char(character)?,
+        }
+    }
+    Ok(())
+}

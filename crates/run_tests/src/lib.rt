@@ -1,0 +1,11 @@
+//! Tests of the program's call and of node map generation, through their public functions, over streams in memory.
+#![tactic(auto)]
+
+#[cfg(test)]
+mod document_tests;
+#[cfg(test)]
+mod fault_tests;
+#[cfg(test)]
+mod node_map_tests;
+#[cfg(test)]
+mod runs;
