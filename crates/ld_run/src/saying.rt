@@ -2,7 +2,6 @@
 use crate::status::{
     NOT_BUILT, OUT_OF_MEMORY, READ_FAULT, Refusal, SYNTAX, Status, TOO_LARGE, USAGE, WRITE_FAULT,
 };
-use ld_json::{Place, Step};
 use std::error::Error;
 use std::fmt;
 
@@ -31,37 +30,10 @@ impl fmt::Display for Refusal {
         match self {
             Refusal::Syntax => f.write_str(words(SYNTAX)),
             Refusal::Number { at } => write!(f, "number at byte {at}"),
-            Refusal::VersionNumber { place } => write_version_number(place, f),
+            Refusal::VersionNumber { place } => write!(f, "version number at {place}"),
             Refusal::NotBuilt => f.write_str(words(NOT_BUILT)),
         }
     }
 }
 
 impl Error for Refusal {}
-
-// The place is written as its pointer, without the memory that `pointer_of` takes.
-fn write_version_number<W: fmt::Write>(place: &Place, f: &mut fmt::Formatter<W>) -> fmt::Result {
-    f.write_str("version number at ")?;
-    if place.len() == 0 {
-        return f.write_str("the root");
-    }
-    for step in place.as_slice() {
-        match step {
-            Step::Key(key) => write_key(key.as_str(), f)?,
-            Step::Item(number) => write!(f, "/{number}")?,
-        }
-    }
-    Ok(())
-}
-
-fn write_key<W: fmt::Write>(key: &str, f: &mut fmt::Formatter<W>) -> fmt::Result {
-    f.write_str("/")?;
-    for character in key.chars() {
-        match character {
-            '~' => f.write_str("~0")?,
-            '/' => f.write_str("~1")?,
-            _ => f.write_char(character)?,
-        }
-    }
-    Ok(())
-}
