@@ -1,7 +1,7 @@
 -- One step of merging the entries of two maps.
 use Rattle.std.specs.Prelude.{◌≡◌, ◌<◌, ◌+◌, [], ◌∷◌, Option, Some, None, length}
 use Rattle.ld_model.specs.Tree as model
-use Rattle.ld_json.specs.View.{members_view}
+use Rattle.ld_tree.specs.View.{members_view}
 use Rattle.ctx_model.specs.Process.{merged}
 use Rattle.ctx_entries.specs.View.{pair_view}
 use Rattle.ctx_entries.specs.declared.local.First.{First}

@@ -3,8 +3,8 @@ use Rattle.std.specs.Prelude.{List, [], map, Option, None, Some}
 use Rattle.std.specs.Option.{option_map}
 use Rattle.std.specs.Borrow.{Bor}
 use Rattle.ld_model.specs.Tree as model
-use Rattle.ld_json.specs.View.{view}
-use Rattle.ld_json.specs.declared.value.Tree.{Tree}
+use Rattle.ld_tree.specs.View.{view}
+use Rattle.ld_tree.specs.declared.value.Tree.{Tree}
 use Rattle.ctx_types.specs.Context.{Text}
 use Rattle.ctx_types.specs.ContextView.{context_view}
 use Rattle.ctx_model.specs.State.{State, Local}

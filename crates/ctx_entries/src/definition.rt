@@ -4,7 +4,7 @@ ghost use Rattle.std.specs.List.{list_all};
 ghost use Rattle.ld_model.specs.Tree as model;
 ghost use Rattle.ld_model.specs.Tree.{member_at};
 ghost use Rattle.ctx_model.specs.Words.{among};
-ghost use Rattle.ld_json.specs.View.{view};
+ghost use Rattle.ld_tree.specs.View.{view};
 ghost use Rattle.ctx_types.specs.ContextView.{settings_view};
 ghost use Rattle.ctx_types.specs.View.{definition_view};
 ghost use Rattle.ctx_entries.specs.Answers.{Answers};
@@ -18,7 +18,7 @@ use crate::words::{
 };
 use case_tables::{Code, Shape};
 use ctx_types::{ActiveContext, Side, Slot, TermDef, expand_iri, is_keyword, joined};
-use ld_json::{Members, Text, Tree};
+use ld_tree::{Members, Text, Tree};
 use std::alloc::{AllocError, Global};
 
 /// The keys that an expanded term definition may have: step 26.

@@ -2,14 +2,14 @@
 ghost use Rattle.std.specs.Prelude.{◌≡◌, ◌+◌, ◌++◌, [], ◌∷◌, length, ◌<◌, IfOk};
 ghost use Rattle.std.specs.Option.{option_map};
 ghost use Rattle.ld_model.specs.Tree.{AreAscending, member_at};
-ghost use Rattle.ld_json.specs.View.{view, members_view};
+ghost use Rattle.ld_tree.specs.View.{view, members_view};
 ghost use Rattle.ctx_model.specs.Process.{merged};
 ghost use Rattle.ctx_entries.specs.View.{entries_view, pair_view, pairs_view, tree_view};
 ghost use Rattle.ctx_entries.specs.Merge.{IsFirstOf};
 
 use ctx_store::Store;
 use ctx_types::ActiveContext;
-use ld_json::{Members, Text, Tree};
+use ld_tree::{Members, Text, Tree};
 use std::alloc::{AllocError, Global};
 use std::cmp::Ordering;
 

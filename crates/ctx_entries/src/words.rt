@@ -8,7 +8,7 @@ ghost use Rattle.ctx_entries.specs.View.{tree_view};
 
 use ctx_types::is_keyword;
 use iri_ref::has_scheme;
-use ld_json::{Text, Tree};
+use ld_tree::{Text, Tree};
 
 /// Whether the text is one of these.
 pub fn among(text: &str, texts: &[Text]) -> bool

@@ -5,9 +5,9 @@ use Rattle.std.specs.Borrow.{Bor}
 use Rattle.case_tables.specs.declared.code.Code.{Code}
 use Rattle.ld_model.specs.Tree as model
 use Rattle.ld_model.specs.Tree.{Pairs, text, object, Members, member_list, member_at}
-use Rattle.ld_json.specs.View.{view}
-use Rattle.ld_json.specs.declared.value.Tree.{Tree}
-use Rattle.ld_json.specs.declared.value.Tree.TheVariants.{Null, Truth, Whole, OneOne, Str, Items, Map}
+use Rattle.ld_tree.specs.View.{view}
+use Rattle.ld_tree.specs.declared.value.Tree.{Tree}
+use Rattle.ld_tree.specs.declared.value.Tree.TheVariants.{Null, Truth, Whole, OneOne, Str, Items, Map}
 use Rattle.ctx_types.specs.Context.{Text, Context}
 use Rattle.ctx_types.specs.ContextView.{context_view}
 use Rattle.ctx_store.specs.Stored.{Contexts}

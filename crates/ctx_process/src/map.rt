@@ -13,7 +13,7 @@ use ctx_entries::{Ask, ContextEntries, ContextStop, LocalContext, Marks, Progres
 use ctx_settings::{import, is_known_version, take_settings};
 use ctx_terms::create_terms;
 use ctx_types::ActiveContext;
-use ld_json::{Members, Tree};
+use ld_tree::{Members, Tree};
 use std::alloc::Global;
 
 /// Takes a map: steps 5.5 to 5.13.

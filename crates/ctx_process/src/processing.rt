@@ -2,7 +2,7 @@
 ghost use Rattle.std.specs.Prelude.{◌≡◌, ◌≤◌, [], Result};
 ghost use Rattle.case_tables.specs.declared.code.Code.{Code};
 ghost use Rattle.ctx_types.specs.Context.{Context};
-ghost use Rattle.ld_json.specs.View.{view};
+ghost use Rattle.ld_tree.specs.View.{view};
 ghost use Rattle.ctx_types.specs.ContextView.{context_view};
 ghost use Rattle.ctx_model.specs.Process as steps;
 ghost use Rattle.ctx_entries.specs.Answers.{Answers, Leaves, Tries};
@@ -15,7 +15,7 @@ use ctx_entries::{Ask, ContextStop, Marks, Progress, among};
 use ctx_settings::{carried, chain_with, load, nullify, propagates_in, resolve_by};
 use ctx_store::Store;
 use ctx_types::ActiveContext;
-use ld_json::{Members, Text, Tree, Trees};
+use ld_tree::{Members, Text, Tree, Trees};
 use std::alloc::Global;
 
 /// How many remote contexts a chain may have.

@@ -1,6 +1,6 @@
 // The parts of context processing that process no other context (JSON-LD 1.1 API, section 4.1.2).
 ghost use Rattle.std.specs.Prelude.{◌≡◌, IfOk};
-ghost use Rattle.ld_json.specs.View.{view};
+ghost use Rattle.ld_tree.specs.View.{view};
 ghost use Rattle.ctx_types.specs.Context.{initial};
 ghost use Rattle.ctx_types.specs.ContextView.{context_view};
 ghost use Rattle.ctx_entries.specs.Answers.{Leaves};
@@ -10,7 +10,7 @@ ghost use Rattle.ctx_entries.specs.View.{ask_view, tree_view};
 use case_tables::Code;
 use ctx_entries::{Ask, ContextStop};
 use ctx_types::{ActiveContext, Previous};
-use ld_json::{Text, Tree};
+use ld_tree::{Text, Tree};
 use std::alloc::{AllocError, Global};
 
 /// Whether the context propagates: step 2.

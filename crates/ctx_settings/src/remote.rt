@@ -1,6 +1,6 @@
 // Contexts that are loaded from the store (JSON-LD 1.1 API, section 4.1.2, steps 5.2 and 5.6).
 ghost use Rattle.std.specs.Prelude.{◌≡◌, ◌++◌, [], ◌∷◌, IfOk};
-ghost use Rattle.ld_json.specs.View.{view};
+ghost use Rattle.ld_tree.specs.View.{view};
 ghost use Rattle.ctx_entries.specs.Answers.{Answers};
 ghost use Rattle.ctx_model.specs.Process as steps;
 ghost use Rattle.ctx_entries.specs.View.{imports_view, text_view, tree_view};
@@ -9,7 +9,7 @@ use case_tables::Code;
 use ctx_entries::ContextStop;
 use ctx_store::{Loaded, Store};
 use iri_ref::{has_scheme, resolve};
-use ld_json::{Members, Text, Tree};
+use ld_tree::{Members, Text, Tree};
 use std::alloc::{AllocError, Global};
 
 /// A text, resolved against a base, where there is one.

@@ -1,7 +1,7 @@
 // The settings of a local context that is a map (JSON-LD 1.1 API, section 4.1.2, steps 5.7 to 5.11).
 ghost use Rattle.std.specs.Prelude.{◌≡◌, true};
 ghost use Rattle.ctx_types.specs.Expansion.{expand_iri};
-ghost use Rattle.ld_json.specs.View.{view};
+ghost use Rattle.ld_tree.specs.View.{view};
 ghost use Rattle.ctx_types.specs.ContextView.{context_view};
 ghost use Rattle.ctx_entries.specs.Answers.{Answers, Leaves};
 ghost use Rattle.ctx_model.specs.Process as steps;
@@ -11,7 +11,7 @@ use case_tables::Code;
 use ctx_entries::{ContextEntries, ContextStop, is_absent_or_truth, is_iri_or_blank, side_named};
 use ctx_types::{ActiveContext, expand_iri};
 use iri_ref::{has_scheme, resolve};
-use ld_json::{Text, Tree};
+use ld_tree::{Text, Tree};
 use std::alloc::Global;
 
 /// Takes the settings of a map into the context. `remotes` are the IRIs of the remote contexts in the chain.

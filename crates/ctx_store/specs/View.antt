@@ -2,7 +2,7 @@
 use Rattle.std.specs.Prelude.{ℕ, List, Option, Some, None, map, String, string_bytes}
 use Rattle.std.specs.declared.alloc.Global.{Global}
 use Rattle.ld_model.specs.Tree as model
-use Rattle.ld_json.specs.View.{view}
+use Rattle.ld_tree.specs.View.{view}
 use Rattle.ctx_store.specs.Stored.{Contexts}
 use Rattle.ctx_store.specs.declared.store.Loaded.{Loaded}
 use Rattle.ctx_store.specs.declared.store.Loaded.TheVariants.{Readable, Unreadable}

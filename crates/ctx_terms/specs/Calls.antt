@@ -1,8 +1,8 @@
 -- What the calls that are handed on have to do.
 use Rattle.std.specs.Prelude.{ℕ, Result}
 use Rattle.std.specs.Borrow.{Bor, MutBor}
-use Rattle.ld_json.specs.declared.value.Tree.{Tree}
-use Rattle.ld_json.specs.View.{view}
+use Rattle.ld_tree.specs.declared.value.Tree.{Tree}
+use Rattle.ld_tree.specs.View.{view}
 use Rattle.ctx_types.specs.declared.context.ActiveContext.{ActiveContext}
 use Rattle.ctx_types.specs.Context.{Text}
 use Rattle.ctx_types.specs.ContextView.{context_view}

@@ -3,7 +3,7 @@ ghost use Rattle.std.specs.Prelude.{◌≡◌, [], ◌∷◌, IfOk};
 ghost use Rattle.std.specs.Option.{option_map, option_and_then};
 ghost use Rattle.case_tables.specs.Shape.{shape_of};
 ghost use Rattle.ld_model.specs.Tree.{trees_of};
-ghost use Rattle.ld_json.specs.View.{view};
+ghost use Rattle.ld_tree.specs.View.{view};
 ghost use Rattle.ctx_types.specs.Expansion.{keywords};
 ghost use Rattle.ctx_entries.specs.Answers.{Answers};
 ghost use Rattle.ctx_model.specs.Definition as steps;
@@ -11,7 +11,7 @@ ghost use Rattle.ctx_entries.specs.View.{tree_view};
 
 use case_tables::{Code, Keyword, Shape, container_shape, keyword_of};
 use ctx_entries::ContextStop;
-use ld_json::{Text, Tree, Trees};
+use ld_tree::{Text, Tree, Trees};
 use std::alloc::{AllocError, Global};
 
 /// The container of a definition, and the type mapping, which `@type` in the container sets where there is none.

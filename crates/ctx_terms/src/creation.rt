@@ -1,7 +1,7 @@
 // Term creation (JSON-LD 1.1 API, section 4.2.2), where a term that is needed on the way is created by a call that is given.
 ghost use Rattle.std.specs.Prelude.{◌≡◌, ◌<◌, None, codes};
 ghost use Rattle.ld_model.specs.Tree.{member_at};
-ghost use Rattle.ld_json.specs.View.{view};
+ghost use Rattle.ld_tree.specs.View.{view};
 ghost use Rattle.ctx_model.specs.Definition.{entries_of};
 ghost use Rattle.ctx_model.specs.Creation as steps;
 ghost use Rattle.ctx_model.specs.Process as process;
@@ -19,7 +19,7 @@ use crate::term::{Settled, Term};
 use case_tables::Code;
 use ctx_entries::{ContextStop, LocalContext, Progress, definition_entry, is_one_of, protected_by};
 use ctx_types::{ActiveContext, Shared, TermDef};
-use ld_json::{Text, Tree};
+use ld_tree::{Text, Tree};
 use std::alloc::Global;
 
 /// The keys of a local context that define no term (JSON-LD 1.1 API, section 4.1.2, step 5.13).

@@ -9,7 +9,7 @@ ghost use Rattle.ctx_entries.specs.Left.{creation};
 
 use ctx_entries::{ContextStop, LocalContext, Progress, is_undone};
 use ctx_types::{as_iri, by_definition, colon_parts, has_keyword_form, is_keyword, is_whole};
-use ld_json::{Text, Tree};
+use ld_tree::{Text, Tree};
 use std::alloc::Global;
 
 /// What a text stands for, with the vocabulary and not relative to the document.

@@ -3,7 +3,7 @@ ghost use Rattle.std.specs.Prelude.{◌≡◌, Result, IfOk, OnOk};
 ghost use Rattle.case_tables.specs.declared.code.Code.{Code};
 ghost use Rattle.ctx_types.specs.Context.{Context};
 ghost use Rattle.std.specs.Option.{option_map};
-ghost use Rattle.ld_json.specs.View.{view};
+ghost use Rattle.ld_tree.specs.View.{view};
 ghost use Rattle.ctx_types.specs.ContextView.{context_view};
 ghost use Rattle.ctx_types.specs.View.{definition_view};
 ghost use Rattle.ctx_entries.specs.Answers.{Answers, Leaves, Tries};
@@ -22,7 +22,7 @@ use ctx_entries::{
     index_of, language_of, mark, nest_of, prefix_of, side_of,
 };
 use ctx_types::{ActiveContext, Shared, Side, Slot, TermDef};
-use ld_json::{Text, Tree};
+use ld_tree::{Text, Tree};
 use std::alloc::{AllocError, Global};
 
 /// Completes a definition and stores it, or leaves the term out.

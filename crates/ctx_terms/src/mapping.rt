@@ -1,6 +1,6 @@
 // The type mapping and the IRI mapping of a term (JSON-LD 1.1 API, section 4.2.2, steps 12 to 18), which may need other terms.
 ghost use Rattle.std.specs.Prelude.{◌≡◌};
-ghost use Rattle.ld_json.specs.View.{view};
+ghost use Rattle.ld_tree.specs.View.{view};
 ghost use Rattle.ctx_entries.specs.Answers.{Gives, Leaves};
 ghost use Rattle.ctx_terms.specs.Calls.{Creates};
 ghost use Rattle.ctx_model.specs.Creation as steps;
@@ -18,7 +18,7 @@ use ctx_entries::{
     mapped_by_prefix, mark, may_be_kind, reverse_container, reverse_definition, without_colon,
 };
 use ctx_types::{Shared, colon_parts, has_keyword_form, is_keyword, is_whole, same_text};
-use ld_json::{Text, Tree};
+use ld_tree::{Text, Tree};
 use std::alloc::Global;
 
 /// The type mapping: step 12.

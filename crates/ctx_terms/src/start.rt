@@ -1,5 +1,5 @@
 // The first steps of term creation (JSON-LD 1.1 API, section 4.2.2, steps 2 to 9).
-ghost use Rattle.ld_json.specs.View.{view};
+ghost use Rattle.ld_tree.specs.View.{view};
 ghost use Rattle.ctx_entries.specs.Answers.{Gives};
 ghost use Rattle.ctx_model.specs.Creation as steps;
 ghost use Rattle.ctx_entries.specs.View.{state_view};
@@ -8,7 +8,7 @@ ghost use Rattle.ctx_terms.specs.View.{start_view};
 use case_tables::Code;
 use ctx_entries::{ContextStop, Progress, is_definition, mark, may_define_type};
 use ctx_types::{Shared, TermDef, has_keyword_form, is_keyword};
-use ld_json::Tree;
+use ld_tree::Tree;
 use std::alloc::Global;
 
 /// What the first steps come to.

@@ -1,5 +1,5 @@
 // A term, and what is known of it on the way to its definition.
-use ld_json::{Text, Tree};
+use ld_tree::{Text, Tree};
 
 /// A term of a local context, and its value there.
 #[derive(Drop)]

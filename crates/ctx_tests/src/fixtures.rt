@@ -1,7 +1,7 @@
 // Definitions and contexts to test with.
 use case_tables::Shape;
 use ctx_types::*;
-use ld_json::Text;
+use ld_tree::Text;
 use std::alloc::{AllocError, Global};
 
 pub(crate) fn text(alloc: Global, text: &str) -> Result<Option<Text>, AllocError> {

@@ -1,6 +1,6 @@
 use crate::fixtures::{defined, example, text};
 use ctx_types::*;
-use ld_json::{Text, Tree};
+use ld_tree::{Text, Tree};
 use std::alloc::{AllocError, Global};
 use std::process::Abort;
 use std::test::Fail;

@@ -1,6 +1,6 @@
 -- The data that values of the crate stand for.
 use Rattle.std.specs.Option.{option_map}
-use Rattle.ld_json.specs.View.{view}
+use Rattle.ld_tree.specs.View.{view}
 use Rattle.ctx_types.specs.Context.{Definition}
 use Rattle.ctx_types.specs.declared.definition.TermDef.{TermDef}
 

@@ -11,7 +11,7 @@ ghost use Rattle.ctx_types.specs.BranchView.{entry_view, front_view, node_view};
 
 use crate::definition::TermDef;
 use crate::shared::Shared;
-use ld_json::Text;
+use ld_tree::Text;
 use std::alloc::{AllocError, Global};
 use std::cmp::Ordering;
 use std::marker::Model;

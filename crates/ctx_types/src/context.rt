@@ -7,7 +7,7 @@ ghost use Rattle.ctx_types.specs.ContextView.{context_view, contexts_view, earli
 
 use crate::definition::Side;
 use crate::terms::Terms;
-use ld_json::Text;
+use ld_tree::Text;
 use std::alloc::{AllocError, Global};
 use std::marker::Model;
 use std::sync::Arc;

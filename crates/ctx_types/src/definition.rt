@@ -4,12 +4,12 @@ ghost use Rattle.std.specs.Bool.{Decides};
 ghost use Rattle.std.specs.Option.{option_map};
 ghost use Rattle.std.specs.Str.{bytes_eq};
 ghost use Rattle.ld_model.specs.Tree.{same_tree};
-ghost use Rattle.ld_json.specs.View.{view};
+ghost use Rattle.ld_tree.specs.View.{view};
 ghost use Rattle.ctx_types.specs.Same.{AreSameButProtected, same_but_protected, same_option, same_shape, same_side, same_slot};
 ghost use Rattle.ctx_types.specs.View.{definition_view};
 
 use case_tables::Shape;
-use ld_json::{Text, Tree};
+use ld_tree::{Text, Tree};
 
 /// A setting that may be absent, null, or there.
 #[derive(Drop)]

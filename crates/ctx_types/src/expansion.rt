@@ -13,7 +13,7 @@ use crate::context::ActiveContext;
 use crate::definition::TermDef;
 use case_tables::keyword_of;
 use iri_ref::{has_scheme, resolve};
-use ld_json::Text;
+use ld_tree::Text;
 use std::alloc::{AllocError, Global};
 
 /// What a text stands for in a context (JSON-LD 1.1 API, section 5.2.2, with no local context): an IRI, a blank node

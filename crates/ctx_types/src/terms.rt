@@ -11,7 +11,7 @@ ghost use Rattle.ctx_types.specs.View.{definition_view};
 use crate::branch::Branch;
 use crate::definition::TermDef;
 use crate::shared::Shared;
-use ld_json::Text;
+use ld_tree::Text;
 use std::alloc::{AllocError, Global};
 use std::marker::Model;
 

@@ -15,8 +15,8 @@ use Rattle.json.specs.Token.{Token}
 use Rattle.json.specs.Tree.{json_tokens, members_tokens}
 use Rattle.ld_model.specs.Tree as model
 use Rattle.ld_model.specs.Tree.{weight, members_weight, members_of, object, byte_order, AreAscending}
-use Rattle.ld_json.specs.declared.value.Tree.{Tree}
-use Rattle.ld_json.specs.View.{view}
+use Rattle.ld_tree.specs.declared.value.Tree.{Tree}
+use Rattle.ld_tree.specs.View.{view}
 use Rattle.json_canon.specs.Utf16.{utf16_order, comes_before}
 use Rattle.json_canon.specs.Canonical.{placed, in_order, with_members_in_order, values_in_order, json_of, json_members}
 use Rattle.json_canon.specs.Lent.{lent}

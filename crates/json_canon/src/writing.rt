@@ -1,7 +1,7 @@
 // The canonical text of a tree.
 ghost use Rattle.std.specs.Prelude.{◌≡◌, ◌++◌, [], map, OnOk, IfOk};
 ghost use Rattle.json.specs.Tree.{json_tokens};
-ghost use Rattle.ld_json.specs.View.{view};
+ghost use Rattle.ld_tree.specs.View.{view};
 ghost use Rattle.json_canon.specs.Lent.{lent};
 ghost use Rattle.json_canon.specs.Canonical.{canonical_text, in_order, json_of, with_members_in_order};
 

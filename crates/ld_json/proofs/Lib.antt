@@ -1,5 +1,3 @@
-pub mod Searches
-pub mod ViewLemmas
 pub mod ReadValues
 pub mod Digits
 pub mod GoodTokens
@@ -7,10 +5,9 @@ pub mod Punctuated
 pub mod GoodWords
 pub mod GrammarNumbers
 pub mod Accepted
-pub mod Builds
-pub mod Walks
 pub mod Turns
 pub mod Knot
 pub mod Whole
 pub mod Unmarked
 pub mod NumberLaws
+pub mod Marked

@@ -15,7 +15,7 @@ use Rattle.ld_json.specs.declared.location.Step.{Step}
 use Rattle.ld_json.specs.Numbers.{refused_number}
 use Rattle.ld_json.specs.Marks.{misplaced}
 use Rattle.ld_json.specs.Read.{tree_of, trees_in, members_in, reading, reading_of, marked, no_json, value_tree, value_member}
-use Rattle.ld_json.proofs.ViewLemmas.{insert_entry-behind}
+use Rattle.ld_tree.proofs.ViewLemmas.{insert_entry-behind}
 
 -- The trees of the values in an array and in an object.
 trees_in-items_view : (vs : List Value) → trees_in (items_view vs) ≡ trees_of (map value_tree vs)

@@ -4,7 +4,7 @@ ghost use Rattle.std.specs.List.{AllByRecursion};
 ghost use Rattle.std.specs.Option.{is_none};
 ghost use Rattle.json.specs.Json.{value, items, members};
 ghost use Rattle.serde_json.specs.Read.{converted};
-ghost use Rattle.ld_json.specs.View.{view};
+ghost use Rattle.ld_tree.specs.View.{view};
 ghost use Rattle.ld_json.specs.Numbers.{are_accepted};
 ghost use Rattle.ld_json.specs.Numbers as numbers;
 ghost use Rattle.ld_json.specs.Marks as marks;
@@ -16,9 +16,8 @@ use crate::marks::misplaced;
 use crate::numbers::refused_number;
 use crate::reading::ReadRefusal;
 use crate::token_numbers::{Seen, number_at};
-use crate::value::{Members, Tree, Trees};
 use json::{Invalid, Reader, Scratch, Token};
-use ld_text::Text;
+use ld_tree::{Members, Text, Tree, Trees};
 use std::alloc::{AllocError, Global};
 
 /// How deep a text may nest.

@@ -1,15 +1,14 @@
 // Reading a text by the value that `serde_json` makes of it.
 ghost use Rattle.std.specs.Prelude.{◌≡◌, true, IfOk, MatchResult, map};
 ghost use Rattle.serde_json.specs.View.{number_view};
-ghost use Rattle.ld_json.specs.View.{view};
+ghost use Rattle.ld_tree.specs.View.{view};
 ghost use Rattle.ld_json.specs.Numbers.{are_accepted};
 ghost use Rattle.ld_json.specs.Read.{reading, reads, Refuses, SaysOfNumbers, number_tree, value_tree, value_member};
 
 use crate::marks::misplaced;
 use crate::numbers::refused_number;
 use crate::reading::ReadRefusal;
-use crate::value::{Members, Tree, Trees};
-use ld_text::Text;
+use ld_tree::{Members, Text, Tree, Trees};
 use serde_json::{Map, Number, Value};
 use std::alloc::{AllocError, Global};
 

@@ -1,14 +1,10 @@
-//! JSON trees: what a document is once it has been read, and its compact text.
+//! JSON texts: reading a text as a tree, the places of a document, and the compact text of a tree.
 //!
-//! A [`Tree`] is a JSON value (RFC 8259) whose numbers are whole, or the number 1.1. Contracts see a [`Text`] as its
-//! bytes, [`Trees`] as a list of trees, and [`Members`] as a list of pairs of key and tree whose keys strictly ascend.
+//! The trees and their lists are those of `ld_tree`, which stand here under their own names too.
 #![tactic(auto)]
 
-mod building;
 mod by_tokens;
 mod by_value;
-mod copying;
-mod equality;
 mod laws;
 mod location;
 mod marks;
@@ -17,17 +13,11 @@ mod pointer;
 mod reading;
 mod saying;
 mod token_numbers;
-mod value;
-mod walking;
-mod weighing;
 mod writing;
 
 pub use laws::named_byte_begins_the_first_refused_number;
-pub use ld_text::Text;
+pub use ld_tree::{Entries, IntoEntries, IntoValues, Members, Text, Tree, Trees, Values, weight};
 pub use location::{Place, Step};
 pub use pointer::pointer_of;
 pub use reading::{ReadRefusal, read_tree};
-pub use value::{Members, Tree, Trees};
-pub use walking::{Entries, IntoEntries, IntoValues, Values};
-pub use weighing::weight;
 pub use writing::text_of;

@@ -2,7 +2,7 @@
 ghost use Rattle.std.specs.Prelude.{◌≡◌, [], ◌∷◌, ◌++◌, length, IfOk, OnOk, OnErr, slice_get};
 ghost use Rattle.std.specs.Option.{option_copied};
 
-use ld_text::Text;
+use ld_tree::Text;
 use std::alloc::{AllocError, Global};
 use std::marker::Model;
 

@@ -1,12 +1,11 @@
 // Where the number 1.1 stands.
 ghost use Rattle.std.specs.Prelude.{◌≡◌, IfOk};
 ghost use Rattle.ld_model.specs.Tree.{trees_of, members_of};
-ghost use Rattle.ld_json.specs.View.{view, trees_view, members_view};
+ghost use Rattle.ld_tree.specs.View.{view};
 ghost use Rattle.ld_json.specs.Marks as marks;
 
 use crate::location::{Place, Step};
-use crate::value::Tree;
-use ld_text::Text;
+use ld_tree::{Members, Text, Tree, Trees};
 use std::alloc::{AllocError, Global};
 
 /// The first place, in the order of keys and items, where the number 1.1 stands elsewhere than as the value of a key
@@ -17,17 +16,20 @@ pub(crate) fn misplaced(alloc: Global, tree: &Tree) -> Result<Option<Place>, All
 {
     match tree {
         Tree::OneOne => Ok(Some(Place::new(alloc))),
-        Tree::Items(trees) => misplaced_items(alloc, trees.as_slice()),
-        Tree::Map(members) => misplaced_members(alloc, members.as_slice()),
+        Tree::Items(trees) => misplaced_items(alloc, trees),
+        Tree::Map(members) => misplaced_members(alloc, members),
         _ => Ok(None),
     }
 }
 
 #[cycle(marks)]
-fn misplaced_items(alloc: Global, trees: &[Tree]) -> Result<Option<Place>, AllocError>
-    ensures { IfOk result (λ p. p ≡ marks.misplaced_items 0 (trees_of (trees_view trees.now))) }
+fn misplaced_items(alloc: Global, trees: &Trees) -> Result<Option<Place>, AllocError>
+    ensures { IfOk result (λ p. p ≡ marks.misplaced_items 0 (trees_of trees.now)) }
 {
-    for (number, tree) in trees.iter().enumerate() {
+    for number in 0..trees.len() {
+        let Some(tree) = trees.get(number) else {
+            return Ok(None);
+        };
         if let Some(place) = misplaced(alloc, tree)? {
             return Ok(Some(place.under(Step::Item(number as u64))?));
         }
@@ -36,11 +38,11 @@ fn misplaced_items(alloc: Global, trees: &[Tree]) -> Result<Option<Place>, Alloc
 }
 
 #[cycle(marks)]
-fn misplaced_members(alloc: Global, members: &[(Text, Tree)]) -> Result<Option<Place>, AllocError>
-    ensures { IfOk result (λ p. p ≡ marks.misplaced_members (members_of (members_view members.now))) }
+fn misplaced_members(alloc: Global, members: &Members) -> Result<Option<Place>, AllocError>
+    ensures { IfOk result (λ p. p ≡ marks.misplaced_members (members_of members.now)) }
 {
-    for member in members {
-        if let Some(place) = misplaced_member(alloc, member)? {
+    for (key, tree) in members {
+        if let Some(place) = misplaced_member(alloc, key, tree)? {
             return Ok(Some(place));
         }
     }
@@ -48,10 +50,9 @@ fn misplaced_members(alloc: Global, members: &[(Text, Tree)]) -> Result<Option<P
 }
 
 #[cycle(marks)]
-fn misplaced_member(alloc: Global, member: &(Text, Tree)) -> Result<Option<Place>, AllocError>
-    ensures { IfOk result (λ p. p ≡ marks.misplaced_member member.now.0 (view member.now.1)) }
+fn misplaced_member(alloc: Global, key: &Text, tree: &Tree) -> Result<Option<Place>, AllocError>
+    ensures { IfOk result (λ p. p ≡ marks.misplaced_member key.now (view tree.now)) }
 {
-    let (key, tree) = member;
     if is_version(key, tree) {
         return Ok(None);
     }

@@ -5,7 +5,7 @@ ghost use Rattle.std.specs.Str.{chars};
 ghost use Rattle.ld_json.specs.Pointer.{pointer, steps_text, step_text, escaped_char};
 
 use crate::location::{Place, Step};
-use ld_text::Text;
+use ld_tree::Text;
 use std::alloc::{AllocError, Global};
 
 /// The JSON Pointer of a place (RFC 6901): each step is `/` and the key, with `~` as `~0` and `/` as `~1`, or the item's

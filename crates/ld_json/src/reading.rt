@@ -1,13 +1,13 @@
 // Reading a text.
 ghost use Rattle.std.specs.Prelude.{◌≡◌, true, MatchResult};
-ghost use Rattle.ld_json.specs.View.{view};
+ghost use Rattle.ld_tree.specs.View.{view};
 ghost use Rattle.ld_json.specs.Numbers.{are_accepted};
 ghost use Rattle.ld_json.specs.Read.{reading, reads, Refuses, SaysOfNumbers};
 
 use crate::by_tokens::read_by_tokens;
 use crate::by_value::read_by_value;
 use crate::location::Place;
-use crate::value::Tree;
+use ld_tree::Tree;
 use std::alloc::{AllocError, Global};
 use thiserror::Error;
 

@@ -2,14 +2,14 @@
 ghost use Rattle.std.specs.Prelude.{◌≡◌, ◌<◌, ◌==◌, ◌&&◌, true, false, not, option_map, length, slice_index, IsTrue, IfSome};
 ghost use Rattle.serde_json.specs.View.{number_view};
 ghost use Rattle.serde_json.specs.Read.{number_of, number_from, float_of};
-ghost use Rattle.ld_json.specs.View.{view};
+ghost use Rattle.ld_tree.specs.View.{view};
 ghost use Rattle.ld_json.specs.Marks.{is_mark};
 ghost use Rattle.ld_json.specs.Numbers.{is_accepted};
 ghost use Rattle.ld_json.specs.Tokens.{number_read, HasNoMark};
 
-use crate::value::Tree;
 use crate::{by_value, numbers};
 use fast_float::Numeral;
+use ld_tree::Tree;
 use serde_json::Number;
 
 /// What was seen of the numbers of a text, so that it is looked through again only where that is needed.

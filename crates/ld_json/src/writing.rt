@@ -4,9 +4,9 @@ ghost use Rattle.std.specs.Fmt.{signed_decimal};
 ghost use Rattle.std.specs.Char.{digit_char};
 ghost use Rattle.json.specs.Print.{escape_byte, quoted};
 ghost use Rattle.ld_model.specs.CompactText.{compact, comma_if};
-ghost use Rattle.ld_json.specs.View.{view};
+ghost use Rattle.ld_tree.specs.View.{view};
 
-use crate::value::Tree;
+use ld_tree::Tree;
 use std::alloc::{AllocError, Global};
 
 /// The compact JSON text of a tree (RFC 8259): no white space, members in the order of their keys, and in strings only

@@ -8,7 +8,7 @@ ghost use Rattle.ld_model.specs.Keys.{default_graph};
 ghost use Rattle.ld_model.specs.Flatten.{graph_of, has_more, nodes_of, flatten};
 ghost use Rattle.ld_model.specs.NodeMap.{generate};
 ghost use Rattle.ld_model.specs.Plain.{is_plain, are_plain_items};
-ghost use Rattle.ld_json.specs.View.{view};
+ghost use Rattle.ld_tree.specs.View.{view};
 ghost use Rattle.ld_json.specs.Read.{reading, reads};
 ghost use Rattle.ld_run.specs.Out.{Out, flat};
 ghost use Rattle.ld_run.specs.Stops.{IsStopOf};

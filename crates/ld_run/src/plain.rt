@@ -1,7 +1,7 @@
 // Whether a document is plain.
 ghost use Rattle.std.specs.Prelude.{◌≡◌};
 ghost use Rattle.ld_model.specs.Plain.{is_plain, is_plain_item, are_plain_items, is_plain_member, are_plain_members, is_plain_array, is_plain_entry, are_plain_entries, is_iri_text};
-ghost use Rattle.ld_json.specs.View.{view};
+ghost use Rattle.ld_tree.specs.View.{view};
 ghost use Rattle.ld_run.specs.PlainPair.{is_plain_pair, is_plain_object};
 
 use iri_ref::has_scheme;

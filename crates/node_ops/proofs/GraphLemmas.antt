@@ -12,8 +12,8 @@ use Rattle.std.proofs.lemmas.Map.Entries.{none_below_head}
 use Rattle.std.proofs.lemmas.Map.Lookups.{exact_bytes}
 use Rattle.ld_model.specs.Tree.{Tree, Pairs, null, array, object, trees_of, members_of, member_list-members_of, member_at, byte_order, put, AreAscending}
 use Rattle.ld_model.specs.NodeMap.{new_node, node_at, node_or_new, with_node, with_node_by, entries_of, with_entries}
-use Rattle.ld_json.specs.View.{view, members_view}
-use Rattle.ld_json.specs.declared.value.Tree.{Tree as Value}
+use Rattle.ld_tree.specs.View.{view, members_view}
+use Rattle.ld_tree.specs.declared.value.Tree.{Tree as Value}
 use Rattle.node_ops.specs.Gather.{gather, gather_property, entries_behind, update}
 use Rattle.node_ops.specs.Graph.{made, nodes_view}
 use Rattle.node_ops.specs.declared.graph.Node.{Node}

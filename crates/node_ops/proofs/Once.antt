@@ -12,7 +12,7 @@ use Rattle.std.specs.BTreeMap.{is_at, insert_entry}
 use Rattle.ld_model.specs.Tree.{Tree, Pairs, array, object, trees_of, members_of, same_tree, Trees, no_trees, tree, tree_list, member_list, tree_list-trees_of, member_list-members_of, member_at, byte_order, put, AreAscending}
 use Rattle.ld_model.specs.Keys.{id_key}
 use Rattle.ld_model.specs.NodeMap.{added, entries_of, new_node, node_at, node_or_new, with_node, with_node_by, with_entries, changed}
-use Rattle.ld_json.proofs.ViewLemmas.{insert_entry-behind}
+use Rattle.ld_tree.proofs.ViewLemmas.{insert_entry-behind}
 use Rattle.node_ops.specs.Once.{appended, all_added, once, repeats, is_held, few, may_repeat, each_value, entries_once, members_once, node_once, nodes_once}
 use Rattle.node_ops.specs.Walk.{id_in, walk_to, walk_target, walk_entries, walk_property, walk_properties, walk_node, walk_item, walk_items}
 

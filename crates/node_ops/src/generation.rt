@@ -3,13 +3,13 @@ ghost use Rattle.std.specs.Prelude.{◌≡◌, true, IfOk, OnOk, MatchResult};
 ghost use Rattle.ld_model.specs.Keys.{id_key};
 ghost use Rattle.ld_model.specs.Plain.{are_plain_items};
 ghost use Rattle.ld_model.specs.NodeMap.{generate};
-ghost use Rattle.ld_json.specs.View.{view};
+ghost use Rattle.ld_tree.specs.View.{view};
 ghost use Rattle.node_ops.specs.Graph.{nodes_view};
 ghost use Rattle.node_ops.specs.Walk.{walk_target};
 ghost use Rattle.node_ops.specs.Gather.{entries_in, with_targets, with_all_targets, gather_item, gather_items};
 
 use crate::graph::{Graph, ensure_node, gather_members, id_of, nodes_of};
-use ld_json::{Members, Text, Tree, Trees};
+use ld_tree::{Members, Text, Tree, Trees};
 use std::alloc::{AllocError, Global};
 use std::collections::BTreeMap;
 use thiserror::Error;

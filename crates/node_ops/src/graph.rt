@@ -8,11 +8,11 @@ ghost use Rattle.node_ops.specs.Graph.{nodes_view, made};
 ghost use Rattle.node_ops.specs.Walk.{id_in};
 ghost use Rattle.node_ops.specs.Gather.{gather, gather_into, node_so_far, are_arrays, is_array_member};
 ghost use Rattle.node_ops.specs.Once.{members_once, nodes_once};
-ghost use Rattle.ld_json.specs.View.{view};
+ghost use Rattle.ld_tree.specs.View.{view};
 
 use crate::merging::merged;
 use crate::repeats::without_repeats;
-use ld_json::{Members, Text, Tree};
+use ld_tree::{Members, Text, Tree};
 use std::alloc::{AllocError, Global};
 use std::collections::BTreeMap;
 

@@ -1,10 +1,10 @@
 // The members of a node that several items describe.
 ghost use Rattle.std.specs.Prelude.{◌≡◌, ◌++◌, OnOk, IfOk};
 ghost use Rattle.ld_model.specs.Tree.{put};
-ghost use Rattle.ld_json.specs.View.{view, members_view};
+ghost use Rattle.ld_tree.specs.View.{view, members_view};
 ghost use Rattle.node_ops.specs.Gather.{gather, gather_each, gather_member, gather_property, entries_in, entries_behind};
 
-use ld_json::{Members, Text, Tree, Trees};
+use ld_tree::{Members, Text, Tree, Trees};
 use std::alloc::{AllocError, Global};
 use std::collections::BTreeMap;
 use std::mem;

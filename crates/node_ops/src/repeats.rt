@@ -6,11 +6,11 @@ ghost use Rattle.std.specs.Option.{option_copied, option_map};
 ghost use Rattle.std.specs.List.{list_any};
 ghost use Rattle.ld_model.specs.Tree.{same_tree, byte_order};
 ghost use Rattle.ld_model.specs.NodeMap.{added};
-ghost use Rattle.ld_json.specs.View.{view};
+ghost use Rattle.ld_tree.specs.View.{view};
 ghost use Rattle.node_ops.specs.Once.{once, repeats, is_held, may_repeat, entries_once, members_once};
 ghost use Rattle.node_ops.specs.Seen.{lone_text, only, Notes};
 
-use ld_json::{Members, Text, Tree, Trees};
+use ld_tree::{Members, Text, Tree, Trees};
 use std::alloc::{AllocError, Global};
 use std::collections::BTreeSet;
 

@@ -1,6 +1,6 @@
 use Rattle.std.proofs.Common.{ap, sym, ◌∙◌}
 use Rattle.ld_model.specs.Tree.{member_at}
-use Rattle.ld_json.specs.View.{view}
+use Rattle.ld_tree.specs.View.{view}
 use Rattle.ctx_model.specs.Definition.{entries_of}
 use Rattle.ctx_entries.proofs.Listed.{of_object}
 use Rattle.ctx_entries.proofs.definition.definition_entry.Goals as goal

@@ -1,6 +1,6 @@
 use Rattle.std.proofs.Common.{ap, sym, ◌∙◌}
 use Rattle.std.specs.List.{list_all}
-use Rattle.ld_json.specs.View.{view}
+use Rattle.ld_tree.specs.View.{view}
 use Rattle.ctx_model.specs.Definition.{entries_of, is_known_entry}
 use Rattle.ctx_entries.proofs.Listed.{of_object}
 use Rattle.ctx_entries.proofs.definition.has_known_entries.Goals as goal

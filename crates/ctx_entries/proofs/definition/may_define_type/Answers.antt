@@ -1,7 +1,7 @@
 use Rattle.std.proofs.Common.{◌≡◌, ◌<◌, [], ◌∷◌, ap, sym, ◌∙◌, refl, length, arith}
 use Rattle.std.specs.List.{list_all}
 use Rattle.ld_model.specs.Tree.{Pairs}
-use Rattle.ld_json.specs.View.{view}
+use Rattle.ld_tree.specs.View.{view}
 use Rattle.ctx_model.specs.Definition.{are_type_entries, is_type_entry, may_define_type}
 use Rattle.ctx_entries.proofs.Listed.{of_object}
 use Rattle.ctx_entries.proofs.definition.may_define_type.Goals as goal

@@ -1,6 +1,6 @@
 -- The entries so far, and those of what is left of both maps.
 use Rattle.std.proofs.Common.{◌≡◌, ◌+◌, ◌++◌, length}
-use Rattle.ld_json.specs.View.{members_view}
+use Rattle.ld_tree.specs.View.{members_view}
 use Rattle.ctx_model.specs.Process.{merged}
 use Rattle.ctx_entries.specs.View.{pairs_view}
 use Rattle.ctx_entries.proofs.local.merge.Given as goal

@@ -1,7 +1,7 @@
 use Rattle.std.proofs.Common.{◌≡◌, ◌<◌, ◌-◌, Err, Some, true, false, ap, sym, ◌∙◌, subst, arith}
 use Rattle.std.proofs.lemmas.Grind.{common_steps}
 use Rattle.ld_model.specs.Tree.{members_of, tree_list-trees_of}
-use Rattle.ld_json.specs.View.{view}
+use Rattle.ld_tree.specs.View.{view}
 use Rattle.ctx_types.specs.ContextView.{context_view}
 use Rattle.ctx_model.specs.Process.{process_within, with_previous, items_of, items_taken, item_taken, remote_taken, map_taken, resolved_by, scoped_ask, remote_ask, loaded}
 use Rattle.ctx_entries.specs.Answers.{Tries}

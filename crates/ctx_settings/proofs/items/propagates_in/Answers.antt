@@ -1,7 +1,7 @@
 use Rattle.std.proofs.Common.{ap, sym, ◌∙◌}
 use Rattle.std.specs.Prelude.{codes}
 use Rattle.ld_model.specs.Tree.{member_at}
-use Rattle.ld_json.specs.View.{view}
+use Rattle.ld_tree.specs.View.{view}
 use Rattle.ctx_model.specs.Process.{propagates_by, propagates_in}
 use Rattle.ctx_entries.proofs.Listed.{of_object}
 use Rattle.ctx_settings.proofs.items.propagates_in.Goals as goal

@@ -1,7 +1,7 @@
 use Rattle.std.proofs.Common.{ap, sym, ◌∙◌}
 use Rattle.std.specs.Prelude.{codes}
 use Rattle.ld_model.specs.Tree.{member_at}
-use Rattle.ld_json.specs.View.{view}
+use Rattle.ld_tree.specs.View.{view}
 use Rattle.ctx_model.specs.Process.{context_entry, given_context}
 use Rattle.ctx_entries.specs.View.{tree_view}
 use Rattle.ctx_entries.proofs.Listed.{of_object}

@@ -1,5 +1,5 @@
 use Rattle.std.proofs.Common.{ap, ◌∙◌}
-use Rattle.ld_json.specs.View.{view}
+use Rattle.ld_tree.specs.View.{view}
 use Rattle.ctx_model.specs.Process.{importable, without_import}
 use Rattle.ctx_entries.proofs.Listed.{of_object}
 use Rattle.ctx_entries.proofs.Carried.{answers_of}

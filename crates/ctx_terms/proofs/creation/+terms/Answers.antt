@@ -1,6 +1,6 @@
 use Rattle.std.proofs.Common.{◌≡◌, ◌<◌, None, arith}
 use Rattle.std.proofs.lemmas.Grind.{common_steps}
-use Rattle.ld_json.specs.View.{view}
+use Rattle.ld_tree.specs.View.{view}
 use Rattle.ctx_model.specs.State.{mark_of}
 use Rattle.ctx_entries.specs.View.{local_view, state_view}
 use Rattle.ctx_entries.specs.Left.{scoped_view}

@@ -1,7 +1,7 @@
 use Rattle.std.proofs.Common.{◌≡◌, Ok, ap, sym, ◌∙◌}
 use Rattle.std.specs.Prelude.{codes}
 use Rattle.ld_model.specs.Tree.{member_at}
-use Rattle.ld_json.specs.View.{view}
+use Rattle.ld_tree.specs.View.{view}
 use Rattle.ctx_model.specs.Definition.{entries_of, protected_by}
 use Rattle.ctx_model.specs.Creation as steps
 use Rattle.ctx_entries.specs.View.{local_view, state_view}

@@ -1,6 +1,6 @@
 use Rattle.std.proofs.Common.{◌≡◌, true, false, ap, sym, ◌∙◌, arith}
 use Rattle.std.proofs.lemmas.Grind.{common_steps}
-use Rattle.ld_json.specs.View.{view}
+use Rattle.ld_tree.specs.View.{view}
 use Rattle.ctx_types.specs.Expansion.{has_keyword_form}
 use Rattle.ctx_model.specs.Definition.{entries_of}
 use Rattle.ctx_model.specs.Creation as steps

@@ -1,5 +1,5 @@
 use Rattle.std.proofs.Common.{◌≡◌, false, ap, sym, ◌∙◌}
-use Rattle.ld_json.specs.View.{view}
+use Rattle.ld_tree.specs.View.{view}
 use Rattle.ctx_model.specs.Definition.{is_simple}
 use Rattle.ctx_model.specs.Creation as steps
 use Rattle.ctx_entries.specs.View.{local_view, mapping_view, state_view}

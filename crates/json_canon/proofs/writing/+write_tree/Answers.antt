@@ -1,6 +1,6 @@
 use Rattle.std.proofs.Common.{ap, rules, refl}
 use Rattle.json.proofs.OnLiterals.{json_on_literals}
-use Rattle.ld_json.specs.View.{view}
+use Rattle.ld_tree.specs.View.{view}
 use Rattle.json_canon.proofs.Members.{borrowed_is_lighter, object_written}
 use Rattle.json_canon.proofs.writing.+write_tree.Goals as goal
 

@@ -8,10 +8,10 @@ use Rattle.std.proofs.lemmas.List.{map-append}
 use Rattle.json.proofs.Grammar.{value_is, value-begin_array, value-begin_object, read_key-shorter, closed_array, read_key_is}
 use Rattle.serde_json.specs.Read.{converted}
 use Rattle.ld_model.specs.Tree.{array, object, trees_of, members_of, byte_order}
-use Rattle.ld_json.specs.declared.value.Tree.{Tree}
-use Rattle.ld_json.specs.View.{view, trees_view, members_view, member_view}
-use Rattle.ld_json.specs.Built.{built}
-use Rattle.ld_json.proofs.Builds.{built-append, all-built}
+use Rattle.ld_tree.specs.declared.value.Tree.{Tree}
+use Rattle.ld_tree.specs.View.{view, trees_view, members_view, member_view}
+use Rattle.ld_tree.specs.Built.{built}
+use Rattle.ld_tree.proofs.Builds.{built-append, all-built}
 use Rattle.ld_json.proofs.Unmarked.{no_mark_items, no_mark_members, all_behind}
 use Rattle.ld_json.specs.Tokens.{tree_read, items_read, members_read, all_in, HasNoMark}
 use Rattle.ld_json.proofs.Turns.{converted-array, converted-object, item_read, item_refused, items_over, member_read, member_refused, key_refused, members_over, none_before, one_more_item}

@@ -1,9 +1,9 @@
 use Rattle.std.proofs.Common.{◌≡◌, ℕ, ◌+◌, ◌*◌, ◌≤◌, ◌++◌, ◌&&◌, true, [], length}
 use Rattle.json.specs.Json.{items, members, value, parse_map}
 use Rattle.serde_json.specs.Read.{converted}
-use Rattle.ld_json.specs.View.{trees_view, members_view}
+use Rattle.ld_tree.specs.View.{trees_view, members_view}
 use Rattle.std.specs.List.{AllByRecursion}
-use Rattle.ld_json.specs.Built.{built}
+use Rattle.ld_tree.specs.Built.{built}
 use Rattle.ld_json.specs.Tokens.{items_read, members_read, all_in, HasNoMark}
 use Rattle.ld_json.proofs.by_tokens.+read.Given as goal
 

@@ -1,7 +1,7 @@
 use Rattle.std.proofs.Common.{Some, None, arith, refl, ◌∙◌}
 use Rattle.std.proofs.lemmas.Grind.{common_steps}
 use Rattle.ld_json.specs.Numbers.{refused_number}
-use Rattle.ld_json.specs.View.{view}
+use Rattle.ld_tree.specs.View.{view}
 use Rattle.ld_json.proofs.Whole.{reading-gated, reading-marked, reading-none, numbers}
 use Rattle.ld_json.proofs.by_tokens.read_by_tokens.Goals as goal
 

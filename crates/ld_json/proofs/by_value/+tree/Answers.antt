@@ -1,7 +1,7 @@
 use Rattle.std.proofs.Common.{◌≡◌, ◌++◌, ◌∷◌, map, String, Global, ap, sym, ◌∙◌}
 use Rattle.serde_json.specs.declared.value.Value.{Value}
 use Rattle.std.proofs.lemmas.Map.Iter.{rest_more}
-use Rattle.ld_json.specs.View.{view}
+use Rattle.ld_tree.specs.View.{view}
 use Rattle.ld_model.specs.Tree.{array, object, trees_of, members_of}
 use Rattle.ld_json.specs.Read.{value_tree, value_member}
 use Rattle.ld_json.proofs.ReadValues.{value_tree-Array, value_tree-Object, set-next}

@@ -1,7 +1,7 @@
 use Rattle.std.proofs.Common.{Some, None, arith}
 use Rattle.std.proofs.lemmas.Grind.{common_steps}
 use Rattle.serde_json.specs.View.{view as value_view}
-use Rattle.ld_json.specs.View.{view}
+use Rattle.ld_tree.specs.View.{view}
 use Rattle.ld_json.proofs.ReadValues.{reading-utf8, reading-no_json, reading-tree}
 use Rattle.ld_json.proofs.Accepted.{accepted}
 use Rattle.ld_json.proofs.by_value.read_by_value.Goals as goal

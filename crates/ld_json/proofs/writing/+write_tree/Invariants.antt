@@ -1,6 +1,6 @@
 use Rattle.std.proofs.Common.{◌≡◌, ◌≤◌, ◌++◌, ◌∷◌, false}
 use Rattle.ld_model.specs.Tree.{weight, trees_weight, members_weight, trees_of, members_of}
-use Rattle.ld_json.specs.View.{view}
+use Rattle.ld_tree.specs.View.{view}
 use Rattle.ld_model.specs.CompactText.{trees_text, members_text}
 use Rattle.ld_json.proofs.writing.+write_tree.Given as goal
 

@@ -1,5 +1,5 @@
 use Rattle.std.proofs.Common.{◌++◌, sym, ap, ◌∙◌, append-nil}
-use Rattle.ld_json.specs.View.{view}
+use Rattle.ld_tree.specs.View.{view}
 use Rattle.ld_run.proofs.Nodes.{nodes_of-more, nodes_of-less}
 use Rattle.ld_run.proofs.document.add_node.Goals as goal
 

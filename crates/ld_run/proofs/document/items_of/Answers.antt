@@ -1,5 +1,5 @@
 use Rattle.std.proofs.Common.{sym, ◌∙◌}
-use Rattle.ld_json.specs.View.{view}
+use Rattle.ld_tree.specs.View.{view}
 use Rattle.ld_run.proofs.PlainDocument.{plain_array}
 use Rattle.ld_run.proofs.document.items_of.Goals as goal
 

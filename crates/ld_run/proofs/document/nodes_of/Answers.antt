@@ -1,6 +1,6 @@
 use Rattle.std.proofs.Common.{◌≡◌, ◌++◌}
 use Rattle.ld_model.specs.Flatten.{nodes_of}
-use Rattle.ld_json.specs.View.{view}
+use Rattle.ld_tree.specs.View.{view}
 use Rattle.ld_run.proofs.Nodes.{one_more}
 use Rattle.ld_run.proofs.document.nodes_of.Goals as goal
 

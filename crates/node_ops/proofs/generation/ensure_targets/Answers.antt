@@ -1,6 +1,6 @@
 use Rattle.std.proofs.Common.{◌≡◌, sym, ap, ◌∙◌}
 use Rattle.ld_model.specs.Tree.{tree_list-trees_of}
-use Rattle.ld_json.specs.View.{view}
+use Rattle.ld_tree.specs.View.{view}
 use Rattle.node_ops.specs.Graph.{nodes_view}
 use Rattle.node_ops.specs.Gather.{entries_in, with_targets}
 use Rattle.node_ops.proofs.generation.ensure_targets.Goals as goal

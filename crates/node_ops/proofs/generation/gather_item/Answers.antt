@@ -3,7 +3,7 @@ use Rattle.std.specs.Option.{is_some, option_copied}
 use denote.Ref.{Bor}
 use Rattle.ld_model.specs.Tree.{Pairs, object, members_of, member_list-members_of, member_at}
 use Rattle.ld_model.specs.Keys.{id_key}
-use Rattle.ld_json.specs.View.{view}
+use Rattle.ld_tree.specs.View.{view}
 use Rattle.node_ops.specs.Graph.{nodes_view}
 use Rattle.node_ops.specs.Walk.{id_in}
 use Rattle.node_ops.specs.Gather.{with_all_targets, gather_into, gather_node, gather_item}

@@ -1,5 +1,5 @@
 use Rattle.std.proofs.Common.{sym, ap, ◌∙◌}
-use Rattle.ld_json.specs.View.{view}
+use Rattle.ld_tree.specs.View.{view}
 use Rattle.ld_model.specs.Tree.{tree_list-trees_of}
 use Rattle.node_ops.specs.Gather.{entries_in}
 use Rattle.node_ops.proofs.merging.entries_of.Goals as goal

@@ -1,5 +1,5 @@
 use Rattle.std.proofs.Common.{◌≡◌}
-use Rattle.ld_json.specs.View.{members_view}
+use Rattle.ld_tree.specs.View.{members_view}
 use Rattle.node_ops.specs.Gather.{gather_each}
 use Rattle.node_ops.proofs.merging.gather_each.Given as goal
 

@@ -1,7 +1,7 @@
 use Rattle.std.proofs.Common.{sym, ap, ◌∙◌}
 use Rattle.std.specs.Option.{option_copied_mut}
 use Rattle.ld_model.specs.Tree.{put}
-use Rattle.ld_json.specs.View.{view, members_view}
+use Rattle.ld_tree.specs.View.{view, members_view}
 use Rattle.node_ops.specs.Gather.{entries_behind}
 use Rattle.node_ops.proofs.GraphLemmas.{gathered-there, gathered-missing}
 use Rattle.node_ops.proofs.merging.gather_property.Goals as goal

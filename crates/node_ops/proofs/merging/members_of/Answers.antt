@@ -1,7 +1,7 @@
 use Rattle.std.proofs.Common.{◌≡◌, ◌++◌, ◌∷◌, List, ℕ}
 use Rattle.std.proofs.lemmas.Map.Iter.{rest_more}
-use Rattle.ld_json.specs.View.{view, members_view}
-use Rattle.ld_json.specs.declared.value.Tree.{Tree}
+use Rattle.ld_tree.specs.View.{view, members_view}
+use Rattle.ld_tree.specs.declared.value.Tree.{Tree}
 use Rattle.node_ops.proofs.GraphLemmas.{ascending-shown}
 use Rattle.node_ops.proofs.Once.{put_behind}
 use Rattle.node_ops.proofs.merging.members_of.Goals as goal

@@ -1,5 +1,5 @@
 use Rattle.std.proofs.Common.{◌≡◌, ◌++◌}
-use Rattle.ld_json.specs.View.{members_view}
+use Rattle.ld_tree.specs.View.{members_view}
 use Rattle.node_ops.proofs.merging.members_of.Given as goal
 
 abbrev pub invariant-loop-key : goal.invariant-loop-key

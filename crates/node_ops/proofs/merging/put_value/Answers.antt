@@ -1,5 +1,5 @@
 use Rattle.std.proofs.Common.{ap, ◌∙◌}
-use Rattle.ld_json.specs.View.{view, members_view}
+use Rattle.ld_tree.specs.View.{view, members_view}
 use Rattle.node_ops.proofs.GraphLemmas.{shown-new}
 use Rattle.node_ops.proofs.merging.put_value.Goals as goal
 

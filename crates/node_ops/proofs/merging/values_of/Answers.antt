@@ -1,6 +1,6 @@
 use Rattle.std.proofs.Common.{◌≡◌, ◌++◌, sym, subst}
 use Rattle.ld_model.specs.Tree.{AreAscending, put}
-use Rattle.ld_json.specs.View.{view, members_view}
+use Rattle.ld_tree.specs.View.{view, members_view}
 use Rattle.node_ops.proofs.Once.{put_behind}
 use Rattle.node_ops.proofs.merging.values_of.Goals as goal
 

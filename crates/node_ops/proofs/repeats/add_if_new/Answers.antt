@@ -1,5 +1,5 @@
 use Rattle.std.proofs.Common.{sym, ◌∙◌}
-use Rattle.ld_json.specs.View.{view}
+use Rattle.ld_tree.specs.View.{view}
 use Rattle.node_ops.proofs.Once.{added-there, added-new}
 use Rattle.node_ops.proofs.repeats.add_if_new.Goals as goal
 

@@ -1,7 +1,7 @@
 use Rattle.std.proofs.Common.{List, sym, ap, ◌∙◌}
 use Rattle.ld_model.specs.Tree as model
 use Rattle.ld_model.specs.Tree.{array, trees_of}
-use Rattle.ld_json.specs.View.{view}
+use Rattle.ld_tree.specs.View.{view}
 use Rattle.node_ops.specs.Once.{entries_once}
 use Rattle.node_ops.proofs.Once.{array-once}
 use Rattle.node_ops.proofs.repeats.each_once.Goals as goal

@@ -3,7 +3,7 @@ use Rattle.std.specs.List.{list_any}
 use Rattle.ld_model.specs.Tree as model
 use Rattle.ld_model.specs.Tree.{same_tree}
 use Rattle.ld_model.specs.Keys.{id_key, value_key}
-use Rattle.ld_json.specs.View.{view}
+use Rattle.ld_tree.specs.View.{view}
 use Rattle.node_ops.specs.Seen.{lone, lone_text}
 use Rattle.node_ops.proofs.SeenLemmas.{lone-is, noted_same, noted_other}
 use Rattle.node_ops.proofs.repeats.is_new.Goals as goal

@@ -1,6 +1,6 @@
 use Rattle.std.proofs.Common.{◌≡◌, ℕ, List, [], ◌||◌, length, nat_lt, Bool, true, false, lt-ltb, sym, ap, ◌∙◌}
 use Rattle.std.proofs.lemmas.Bool.{le-ltb}
-use Rattle.ld_json.specs.View.{view}
+use Rattle.ld_tree.specs.View.{view}
 use Rattle.ld_model.specs.Tree as model
 use Rattle.ld_model.specs.Tree.{array, trees_of, tree_list-trees_of}
 use Rattle.node_ops.specs.Once.{few, repeats, may_repeat}

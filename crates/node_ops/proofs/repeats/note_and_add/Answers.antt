@@ -4,7 +4,7 @@ use Rattle.ld_model.specs.Tree as model
 use Rattle.ld_model.specs.Tree.{same_tree}
 use Rattle.ld_model.specs.Keys.{id_key, value_key}
 use Rattle.ld_model.specs.NodeMap.{added}
-use Rattle.ld_json.specs.View.{view}
+use Rattle.ld_tree.specs.View.{view}
 use Rattle.node_ops.specs.Seen.{Notes}
 use Rattle.node_ops.specs.declared.repeats.Seen.{Seen}
 use Rattle.node_ops.proofs.Once.{added-there, added-new}

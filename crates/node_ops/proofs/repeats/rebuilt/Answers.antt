@@ -1,6 +1,6 @@
 use Rattle.std.proofs.Common.{◌≡◌, ◌++◌, sym, subst}
 use Rattle.ld_model.specs.Tree.{AreAscending}
-use Rattle.ld_json.specs.View.{view}
+use Rattle.ld_tree.specs.View.{view}
 use Rattle.node_ops.specs.Once.{entries_once, members_once}
 use Rattle.node_ops.proofs.Once.{put_behind, ascending-each}
 use Rattle.node_ops.proofs.repeats.rebuilt.Goals as goal

@@ -1,0 +1,4 @@
+pub mod Searches
+pub mod ViewLemmas
+pub mod Builds
+pub mod Walks
