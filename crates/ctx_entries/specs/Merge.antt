@@ -1,14 +1,15 @@
 -- One step of merging the entries of two maps.
 use Rattle.std.specs.Prelude.{◌≡◌, ◌<◌, ◌+◌, [], ◌∷◌, Option, Some, None, length}
+use Rattle.std.specs.Borrow.{Bor}
 use Rattle.ld_model.specs.Tree as model
-use Rattle.ld_json.specs.View.{members_view}
+use Rattle.ld_json.specs.declared.value.Tree.{Tree}
+use Rattle.ctx_types.specs.Context.{Text}
 use Rattle.ctx_model.specs.Process.{merged}
 use Rattle.ctx_entries.specs.View.{pair_view}
-use Rattle.ctx_entries.specs.declared.local.First.{First}
 
--- The entry stands first among those of both maps, and what is left are the others; or there is none.
-abbrev pub IsFirstOf : model.Pairs → model.Pairs → Option First → Type 0
-IsFirstOf own imports None = merged own imports ≡ []
-IsFirstOf own imports (Some f) =
-    (merged own imports ≡ pair_view f.entry ∷ merged (members_view f.own.now) (members_view f.imports.now))
-    × (length (members_view f.own.now) + length (members_view f.imports.now) < length own + length imports)
+-- The entry stands first among those of both maps, and the last two arguments are the others; or there is none.
+abbrev pub IsNextOf : model.Pairs → model.Pairs → Option (Bor Text × Bor Tree) → model.Pairs → model.Pairs → Type 0
+IsNextOf own imports None own_left imports_left = merged own imports ≡ []
+IsNextOf own imports (Some e) own_left imports_left =
+    (merged own imports ≡ pair_view e ∷ merged own_left imports_left)
+    × (length own_left + length imports_left < length own + length imports)

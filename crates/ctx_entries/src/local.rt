@@ -1,15 +1,13 @@
 // A local context, and what it is processed with.
-ghost use Rattle.std.specs.Prelude.{◌≡◌, ◌+◌, ◌++◌, [], ◌∷◌, length, ◌<◌, IfOk};
-ghost use Rattle.std.specs.Option.{option_map};
+ghost use Rattle.std.specs.Prelude.{◌≡◌, IfOk};
 ghost use Rattle.ld_model.specs.Tree.{AreAscending, member_at};
-ghost use Rattle.ld_json.specs.View.{view, members_view};
 ghost use Rattle.ctx_model.specs.Process.{merged};
-ghost use Rattle.ctx_entries.specs.View.{entries_view, pair_view, pairs_view, tree_view};
-ghost use Rattle.ctx_entries.specs.Merge.{IsFirstOf};
+ghost use Rattle.ctx_entries.specs.View.{entries_view, pairs_view, tree_view};
+ghost use Rattle.ctx_entries.specs.Merge.{IsNextOf};
 
 use ctx_store::Store;
 use ctx_types::ActiveContext;
-use ld_json::{Members, Text, Tree};
+use ld_json::{Entries, Members, Text, Tree};
 use std::alloc::{AllocError, Global};
 use std::cmp::Ordering;
 
@@ -73,8 +71,8 @@ impl<'a> ContextEntries<'a> {
         ensures { IfOk result (λ es. pairs_view es.items ≡ entries_view self.now) }
     {
         match self.imports {
-            Some(imports) => merge(alloc, self.own.as_slice(), imports.as_slice()),
-            None => merge(alloc, self.own.as_slice(), &[]),
+            Some(imports) => merge(alloc, self.own, imports),
+            None => listed(alloc, self.own),
         }
     }
 }
@@ -88,73 +86,50 @@ fn own_entry<'a>(own: &'a Members, key: &str) -> Option<&'a Tree>
     own.get(key)
 }
 
-/// The first entry of two maps, and what is left of both.
-#[derive(Drop)]
-struct First<'a> {
-    entry: (&'a Text, &'a Tree),
-    own: &'a [(Text, Tree)],
-    imports: &'a [(Text, Tree)],
+/// The entries of one map, in the order of their keys.
+fn listed(alloc: Global, own: &Members) -> Result<Vec<(&Text, &Tree)>, AllocError>
+    ensures { IfOk result (λ es. pairs_view es.items ≡ own.now) }
+{
+    let mut pairs = Vec::with_capacity(alloc, own.len())?;
+    for pair in own {
+        pairs.push(pair)?;
+    }
+    Ok(pairs)
 }
 
 /// The entries of two maps in the order of their keys. Where both have a key the first one's stands.
 fn merge<'a>(
     alloc: Global,
-    own: &'a [(Text, Tree)],
-    imports: &'a [(Text, Tree)],
+    own: &'a Members,
+    imports: &'a Members,
 ) -> Result<Vec<(&'a Text, &'a Tree)>, AllocError>
-    ensures { IfOk result (λ es. pairs_view es.items ≡ merged (members_view own.now) (members_view imports.now)) }
+    ensures { IfOk result (λ es. pairs_view es.items ≡ merged own.now imports.now) }
 {
     let mut pairs = Vec::with_capacity(alloc, own.len())?;
-    let mut own = own;
-    let mut imports = imports;
-    while let Some(first) = first_of(own, imports) {
-        pairs.push(first.entry)?;
-        own = first.own;
-        imports = first.imports;
+    let mut own = own.iter();
+    let mut imports = imports.iter();
+    while let Some(pair) = next_of(&mut own, &mut imports) {
+        pairs.push(pair)?;
     }
     Ok(pairs)
 }
 
-fn first_of<'a>(own: &'a [(Text, Tree)], imports: &'a [(Text, Tree)]) -> Option<First<'a>>
-    ensures { IsFirstOf (members_view own.now) (members_view imports.now) result }
+/// The entry that stands first among those that are left of two maps. It is taken off both, if both have its key.
+fn next_of<'a>(own: &mut Entries<'a>, imports: &mut Entries<'a>) -> Option<(&'a Text, &'a Tree)>
+    ensures { IsNextOf own.old imports.old result own.new imports.new }
 {
-    match own.split_first() {
-        None => first_import(own, imports),
-        Some((e, own_rest)) => match imports.split_first() {
-            None => Some(First {
-                entry: (&e.0, &e.1),
-                own: own_rest,
-                imports,
-            }),
-            Some((i, imports_rest)) => match e.0.compare(i.0.as_str()) {
-                Ordering::Less => Some(First {
-                    entry: (&e.0, &e.1),
-                    own: own_rest,
-                    imports,
-                }),
-                Ordering::Equal => Some(First {
-                    entry: (&e.0, &e.1),
-                    own: own_rest,
-                    imports: imports_rest,
-                }),
-                Ordering::Greater => Some(First {
-                    entry: (&i.0, &i.1),
-                    own,
-                    imports: imports_rest,
-                }),
-            },
-        },
+    let Some((key, _)) = own.peek() else {
+        return imports.next();
+    };
+    let Some((import, _)) = imports.peek() else {
+        return own.next();
+    };
+    match key.compare(import.as_str()) {
+        Ordering::Less => own.next(),
+        Ordering::Equal => {
+            imports.next();
+            own.next()
+        }
+        Ordering::Greater => imports.next(),
     }
-}
-
-fn first_import<'a>(own: &'a [(Text, Tree)], imports: &'a [(Text, Tree)]) -> Option<First<'a>>
-    requires { length own.now ≡ 0 }
-    ensures { IsFirstOf [] (members_view imports.now) result }
-{
-    let (i, rest) = imports.split_first()?;
-    Some(First {
-        entry: (&i.0, &i.1),
-        own,
-        imports: rest,
-    })
 }

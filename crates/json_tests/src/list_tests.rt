@@ -125,14 +125,19 @@ fn values_stay_in_order(rt: HostRuntime) -> Result<(), Fail> {
 }
 
 #[test]
-fn slices_and_vectors_have_what_the_lists_have(rt: HostRuntime) -> Result<(), Fail> {
-    let trees = two_trees(rt.alloc())?;
-    assert!(rt; trees.as_slice().len() == 2);
-    let again = Trees::from_vec(trees.into_vec());
-    assert!(rt; matches!(again.get(0), Some(Tree::Null)) && again.len() == 2);
+fn a_vector_of_values_makes_a_list(rt: HostRuntime) -> Result<(), Fail> {
+    let trees = Trees::from_vec(vec![in rt.alloc(); Tree::Null, Tree::OneOne]?);
+    assert!(rt; matches!(trees.get(0), Some(Tree::Null)) && trees.len() == 2);
+    let text = text_of(rt.alloc(), &Tree::Items(trees))?;
+    assert!(rt; text.as_slice() == b"[null,1.1]".as_slice());
+    Ok(())
+}
+
+#[test]
+fn members_are_appended(rt: HostRuntime) -> Result<(), Fail> {
     let mut members = Members::new(rt.alloc());
     members.append(Text::new(rt.alloc(), "a")?, Tree::Null)?;
-    assert!(rt; members.as_slice().len() == 1 && members.into_vec().len() == 1);
+    assert!(rt; members.len() == 1 && matches!(members.get("a"), Some(Tree::Null)));
     Ok(())
 }
 

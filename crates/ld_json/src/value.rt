@@ -142,14 +142,14 @@ impl Trees {
     }
 
     /// The values, as a slice.
-    pub fn as_slice(&self) -> &[Tree]
+    pub(crate) fn as_slice(&self) -> &[Tree]
         ensures { trees_view result.now ≡ self.now }
     {
         self.items.as_slice()
     }
 
     /// The values, as a vector, which is moved and not copied.
-    pub fn into_vec(self) -> Vec<Tree>
+    pub(crate) fn into_vec(self) -> Vec<Tree>
         ensures { trees_view result.items ≡ self }
     {
         let Trees { items } = self;
@@ -237,7 +237,7 @@ impl Members {
     }
 
     /// The members, as a slice, in the order of their keys.
-    pub fn as_slice(&self) -> &[(Text, Tree)]
+    pub(crate) fn as_slice(&self) -> &[(Text, Tree)]
         ensures members { members_view result.now ≡ self.now }
         ensures ascending { AreAscending self.now }
     {
@@ -245,7 +245,7 @@ impl Members {
     }
 
     /// The members, as a vector in the order of their keys, which is moved and not copied.
-    pub fn into_vec(self) -> Vec<(Text, Tree)>
+    pub(crate) fn into_vec(self) -> Vec<(Text, Tree)>
         ensures members { members_view result.items ≡ self }
         ensures ascending { AreAscending self }
     {

@@ -2,7 +2,7 @@
 use Rattle.std.proofs.Common.{◌≡◌, ℕ, List, [], ◌∷◌, ◌++◌, cond, Bool, true, false, Option, Some, None, Ordering, Less, Equal, Greater, refl, sym, ap, ◌∙◌, subst}
 use Rattle.std.specs.Prelude.{map}
 use Rattle.std.specs.Option.{option_map, is_some}
-use Rattle.std.specs.Ordering.{is_eq, match_ordering}
+use Rattle.std.specs.Ordering.{match_ordering}
 use Rattle.std.specs.List.Sorted.{IsStrictlySortedBy}
 use Rattle.std.specs.Map.{keys_of, lookup, set_value}
 use Rattle.std.specs.BTreeMap.{is_at, insert_entry}
@@ -10,18 +10,15 @@ use Rattle.std.proofs.lemmas.Cmp.{nat_list_cmp_total}
 use Rattle.std.proofs.lemmas.Map.{lookup-none}
 use Rattle.std.proofs.lemmas.Map.Entries.{none_below_head}
 use Rattle.std.proofs.lemmas.Map.Lookups.{exact_bytes}
+use Rattle.std.proofs.lemmas.Map.Text.{is_eq-slice_cmp}
 use Rattle.ld_model.specs.Tree.{Tree, Pairs, null, array, object, trees_of, members_of, member_list-members_of, member_at, byte_order, put, AreAscending}
 use Rattle.ld_model.specs.NodeMap.{new_node, node_at, node_or_new, with_node, with_node_by, entries_of, with_entries}
+use Rattle.ld_model.proofs.Puts.{bytes_eq-exact}
 use Rattle.ld_json.specs.View.{view, members_view}
 use Rattle.ld_json.specs.declared.value.Tree.{Tree as Value}
 use Rattle.node_ops.specs.Gather.{gather, gather_property, entries_behind, update}
 use Rattle.node_ops.specs.Graph.{made, nodes_view}
 use Rattle.node_ops.specs.declared.graph.Node.{Node}
-
-is_equal : (o : Ordering) → is_eq o ≡ true → o ≡ Equal
-is_equal Less is = absurd (cc)
-is_equal Equal is = refl
-is_equal Greater is = absurd (cc)
 
 module _ {V : Type 0} (f : List ℕ → V → Tree) where
   abbrev pub shown : List (List ℕ × V) → Pairs
@@ -32,7 +29,7 @@ module _ {V : Type 0} (f : List ℕ → V → Tree) where
   member_at-shown k (e ∷ es) = by_key (is_at (byte_order k) e.0) refl (member_at-shown k es)
     where
       by_key : (b : Bool) → is_at (byte_order k) e.0 ≡ b → member_at k (shown es) ≡ option_map (f k) (lookup (is_at (byte_order k)) es) → cond b (Some (f e.0 e.1)) (member_at k (shown es)) ≡ option_map (f k) (cond b (Some e.1) (lookup (is_at (byte_order k)) es))
-      by_key true is more = ap (λ q. Some (f q e.1)) (sym (exact_bytes k e.0 (is_equal (byte_order k e.0) is)))
+      by_key true is more = ap (λ q. Some (f q e.1)) (sym (bytes_eq-exact k e.0 (sym (is_eq-slice_cmp k e.0) ∙ is)))
       by_key false is more = more
 
   pub shown-set : (k : List ℕ) (v : V) (es : List (List ℕ × V)) → shown (set_value (is_at (byte_order k)) es v) ≡ set_value (is_at (byte_order k)) (shown es) (f k v)
@@ -40,7 +37,7 @@ module _ {V : Type 0} (f : List ℕ → V → Tree) where
   shown-set k v (e ∷ es) = by_key (is_at (byte_order k) e.0) refl (shown-set k v es)
     where
       by_key : (b : Bool) → is_at (byte_order k) e.0 ≡ b → shown (set_value (is_at (byte_order k)) es v) ≡ set_value (is_at (byte_order k)) (shown es) (f k v) → shown (cond b ((e.0, v) ∷ es) (e ∷ set_value (is_at (byte_order k)) es v)) ≡ cond b ((e.0, f k v) ∷ shown es) ((e.0, f e.0 e.1) ∷ set_value (is_at (byte_order k)) (shown es) (f k v))
-      by_key true is more = ap (λ q. (e.0, f q v) ∷ shown es) (sym (exact_bytes k e.0 (is_equal (byte_order k e.0) is)))
+      by_key true is more = ap (λ q. (e.0, f q v) ∷ shown es) (sym (bytes_eq-exact k e.0 (sym (is_eq-slice_cmp k e.0) ∙ is)))
       by_key false is more = ap (λ l. (e.0, f e.0 e.1) ∷ l) more
 
   pub shown-insert : (k : List ℕ) (v : V) (es : List (List ℕ × V)) → shown (insert_entry byte_order es k v) ≡ insert_entry byte_order (shown es) k (f k v)

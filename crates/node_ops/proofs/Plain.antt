@@ -1,43 +1,22 @@
 -- Generation over a plain document issues no label, and is the walk.
-use Rattle.std.proofs.Common.{◌≡◌, ℕ, List, [], ◌∷◌, Bool, true, false, ◌&&◌, Option, Some, None, Ordering, Less, Equal, Greater, refl, sym, ap, ◌∙◌, subst}
+use Rattle.std.proofs.Common.{◌≡◌, ℕ, List, [], ◌∷◌, Bool, true, false, ◌&&◌, Option, Some, None, refl, sym, ap, ◌∙◌, subst}
 use Rattle.std.specs.Prelude.{◌==◌, if◌then◌else◌}
 use Rattle.std.specs.Option.{is_some}
-use Rattle.std.specs.Ordering.{is_eq, ordering_reverse}
-use Rattle.std.proofs.lemmas.Cmp.{nat_list_cmp_total}
-use Rattle.std.proofs.lemmas.Map.Lookups.{exact_bytes}
 use Rattle.std.specs.Str.{bytes_eq}
 use Rattle.std.proofs.lemmas.Map.Text.{is_eq-slice_cmp}
 use borrow.Author.Tests.{eqb-true}
-use Rattle.ld_model.specs.Tree.{Tree, text, array, object, no_members, member, Pairs, member_list, member_at, byte_order}
+use Rattle.ld_model.specs.Tree.{Tree, text, array, object, no_members, member, Pairs, member_list, member_at}
 use Rattle.ld_model.specs.Label.{Labels, is_blank}
 use Rattle.ld_model.specs.Iri.{has_scheme, is_letter}
 use Rattle.ld_model.specs.Keys.{id_key}
 use Rattle.ld_model.specs.Plain.{is_iri_text, is_plain_entry, are_plain_entries, is_plain_array, is_plain_member, are_plain_members, is_plain_item, are_plain_items}
 use Rattle.ld_model.specs.NodeMap.{State, named, entry_into, entries_into, entries_of, changed, added, with_node, property_into, named_property_into, properties_into, name_of, named_item_into, item_into, items_into}
+use Rattle.ld_model.proofs.Puts.{bytes_eq-exact, bytes_eq-sym}
+use Rattle.ld_model.proofs.Truths.{both}
 use Rattle.node_ops.specs.Walk.{id_in, walk_target, walk_entries, walk_property, walk_properties, walk_node, walk_item, walk_items}
 
 abbrev state : Pairs → Labels → State
 state nodes labels = record { nodes = nodes; labels = labels }
-
-pub both : (a b : Bool) → (a && b) ≡ true → (a ≡ true) × (b ≡ true)
-both true b h = (refl, h)
-both false b h = absurd (cc)
-
-pub same_bytes : (a b : List ℕ) → bytes_eq a b ≡ true → a ≡ b
-same_bytes a b h = exact_bytes a b (equal (byte_order a b) (is_eq-slice_cmp a b ∙ h))
-  where
-    equal : (o : Ordering) → is_eq o ≡ true → o ≡ Equal
-    equal Less h = absurd (cc)
-    equal Equal h = refl
-    equal Greater h = absurd (cc)
-
-pub bytes_eq-comm : (a b : List ℕ) → bytes_eq b a ≡ bytes_eq a b
-bytes_eq-comm a b = sym (is_eq-slice_cmp b a) ∙ ap is_eq (nat_list_cmp_total.antisymm b a) ∙ reversed (byte_order a b) ∙ is_eq-slice_cmp a b
-  where
-    reversed : (o : Ordering) → is_eq (ordering_reverse o) ≡ is_eq o
-    reversed Less = refl
-    reversed Equal = refl
-    reversed Greater = refl
 
 -- An IRI is no label of a blank node.
 not_blank : (s : List ℕ) → has_scheme s ≡ true → is_blank s ≡ false
@@ -75,8 +54,8 @@ module _ (id property : List ℕ) (nodes : Pairs) (l : Labels) where
       subst (λ e. is_plain_entry e ≡ true → entry_into id property e (state nodes l) ≡ state (changed id property (added e) (walk_target e nodes)) l) (sym shape.2) (by_key shape.0 shape.1 (bytes_eq shape.0 id_key) refl) h
     where
       by_key : (k s : List ℕ) (b : Bool) → bytes_eq k id_key ≡ b → is_plain_entry (object (member k (text s) no_members)) ≡ true → entry_into id property (object (member k (text s) no_members)) (state nodes l) ≡ state (changed id property (added (object (member k (text s) no_members))) (walk_target (object (member k (text s) no_members)) nodes)) l
-      by_key k s true is plain = reference_entry k s (same_bytes k id_key is) plain
-      by_key k s false is plain = value_entry k s is (bytes_eq-comm k id_key ∙ is)
+      by_key k s true is plain = reference_entry k s (bytes_eq-exact k id_key is) plain
+      by_key k s false is plain = value_entry k s is (bytes_eq-sym id_key k ∙ is)
 
 plain_entries : (id property : List ℕ) (es : List Tree) (nodes : Pairs) (l : Labels) → are_plain_entries es ≡ true → entries_into id property es (state nodes l) ≡ state (walk_entries added id property es nodes) l
 plain_entries id property [] nodes l h = refl
@@ -116,7 +95,7 @@ plain_id (m ∷ ms) t h there =
     by_key true is plain more =
         let found : Some m.1 ≡ Some t = rw (is_eq-slice_cmp id_key m.0, is) at there in
         let same : m.1 ≡ t = cc in
-        let back : bytes_eq m.0 id_key ≡ true = bytes_eq-comm id_key m.0 ∙ is in
+        let back : bytes_eq m.0 id_key ≡ true = bytes_eq-sym m.0 id_key ∙ is in
         subst (λ t. is_iri_text t ≡ true) same (rw back at plain)
     by_key false is plain more = more (rw (is_eq-slice_cmp id_key m.0, is) at there)
 

@@ -5,13 +5,10 @@ use Rattle.std.specs.List.{list_any}
 use Rattle.std.specs.BTreeSet.{BTreeSet, contains}
 use Rattle.std.proofs.lemmas.List.Folds.{list_any-append}
 use Rattle.ld_model.specs.Tree.{Tree, text, object, no_members, member, same_tree, byte_order}
+use Rattle.ld_model.proofs.Puts.{bytes_eq-exact, bytes_eq-sym}
+use Rattle.ld_model.proofs.Truths.{and-false}
 use Rattle.node_ops.specs.Walk.{id_in}
 use Rattle.node_ops.specs.Seen.{lone, lone_text, AreTextsAt}
-use Rattle.node_ops.proofs.Plain.{same_bytes, bytes_eq-comm}
-
-none : (b : Bool) → (b && false) ≡ false
-none true = refl
-none false = refl
 
 whole : (b : Bool) → (b && true) ≡ b
 whole true = refl
@@ -32,7 +29,7 @@ pub lone-is : (key : List ℕ) (t : Tree) (s : List ℕ) → lone_text key t ≡
 lone-is key (object (member k v no_members)) s h = by_key (bytes_eq k key) refl h
   where
     by_key : (b : Bool) → bytes_eq k key ≡ b → cond b (id_in (Some v)) None ≡ Some s → object (member k v no_members) ≡ lone key s
-    by_key true is h = ap (λ k. object (member k v no_members)) (same_bytes k key is) ∙ ap (λ v. object (member key v no_members)) (text_is v s h)
+    by_key true is h = ap (λ k. object (member k v no_members)) (bytes_eq-exact k key is) ∙ ap (λ v. object (member key v no_members)) (text_is v s h)
     by_key false is h = absurd (cc)
 lone-is key _ s h = absurd (cc)
 
@@ -45,9 +42,9 @@ apart : (key s : List ℕ) (t : Tree) → lone_text key t ≡ None → same_tree
 apart key s (object (member k v no_members)) h = by_key (bytes_eq k key) refl h
   where
     by_key : (b : Bool) → bytes_eq k key ≡ b → cond b (id_in (Some v)) None ≡ None → ((bytes_eq key k && same_tree (text s) v) && true) ≡ false
-    by_key true is h = rw (other_value s v h, none (bytes_eq key k)) refl
-    by_key false is h = let away : bytes_eq key k ≡ false = bytes_eq-comm k key ∙ is in rw away refl
-apart key s (object (member k v (member l w ms))) h = none (bytes_eq key k && same_tree (text s) v)
+    by_key true is h = rw (other_value s v h, and-false (bytes_eq key k)) refl
+    by_key false is h = let away : bytes_eq key k ≡ false = bytes_eq-sym key k ∙ is in rw away refl
+apart key s (object (member k v (member l w ms))) h = and-false (bytes_eq key k && same_tree (text s) v)
 apart key s _ h = refl
 
 module _ (key : List ℕ) (itself : bytes_eq key key ≡ true) where
@@ -60,7 +57,7 @@ module _ (key : List ℕ) (itself : bytes_eq key key ≡ true) where
   -- The texts noted, once that of a further entry is noted, and once an entry without such a text stands behind.
   pub noted_same : (r : List ℕ) (old new : BTreeSet (List ℕ)) (t : Tree) (ts : List Tree) → AreTextsAt key old ts → ((s : List ℕ) → contains byte_order new s ≡ (bytes_eq r s || contains byte_order old s)) → t ≡ lone key r → AreTextsAt key new (ts ++ t ∷ [])
   noted_same r old new t ts known noted is s =
-      let equal : same_tree (lone key s) t ≡ bytes_eq r s = ap (same_tree (lone key s)) is ∙ lone-lone s r ∙ bytes_eq-comm r s in
+      let equal : same_tree (lone key s) t ≡ bytes_eq r s = ap (same_tree (lone key s)) is ∙ lone-lone s r ∙ bytes_eq-sym s r in
       noted s ∙ ap (λ b. bytes_eq r s || b) (known s) ∙ ap (λ b. b || list_any (same_tree (lone key s)) ts) (sym equal) ∙ sym (any_more s t ts)
 
   pub noted_other : (texts : BTreeSet (List ℕ)) (t : Tree) (ts : List Tree) → AreTextsAt key texts ts → lone_text key t ≡ None → AreTextsAt key texts (ts ++ t ∷ [])
@@ -75,7 +72,7 @@ module _ (key : List ℕ) (itself : bytes_eq key key ≡ true) where
       by_text (Some r) is =
           let at : t ≡ lone key r = lone-is key t r is in
           let equal : bytes_eq s r ≡ true = sym (lone-lone s r) ∙ ap (same_tree (lone key s)) (sym at) ∙ same in
-          at ∙ ap (lone key) (sym (same_bytes s r equal))
+          at ∙ ap (lone key) (sym (bytes_eq-exact s r equal))
 
   -- An entry that is there makes no difference behind.
   pub noted_there : (texts : BTreeSet (List ℕ)) (t : Tree) (ts : List Tree) → list_any (same_tree t) ts ≡ true → AreTextsAt key texts (ts ++ t ∷ []) → AreTextsAt key texts ts
