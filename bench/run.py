@@ -7,7 +7,7 @@ Usage: run.py PROGRAM [BYTES ..]       plain documents of about so many bytes (1
 
 PROGRAM is for instance crates/jsonld_flat/out/jsonld_flat. Prints one table: bytes, processor time, peak memory, memory for each
 byte of input, jq's processor time and peak, and the ratios of both. jq is left out where it isn't installed. A shape that is refused
-(`error: not built`) is read all the same.
+(`error: not built`) is read all the same. A peak below some 20 MB is that of this script, from which the program is started.
 """
 import os
 import platform
@@ -66,28 +66,27 @@ def row(program, name, path, statuses=(0,)):
     print(line, flush=True)
 
 
-def write_plain(path, size):
+def write(path, script, *words):
     with open(path, "wb") as out:
-        subprocess.run([sys.executable, os.path.join(HERE, "plain.py"), str(size)], stdout=out, check=True)
+        subprocess.run([sys.executable, os.path.join(HERE, script), *map(str, words)], stdout=out, check=True)
 
 
 def plain(program, path, sizes):
     for size in sizes:
-        write_plain(path, size)
+        write(path, "plain.py", size)
         row(program, "plain", path)
 
 
 def each_shape(program, path, counts):
     for shape in shapes.SHAPES:
         for count in counts:
-            with open(path, "w") as out:
-                # arrays a hundred deep are wide enough as they are
-                out.write(shapes.document(shape, count // 20 if shape == "deep" else count))
+            # in a process of its own, so that this one stays small; arrays a hundred deep are wide enough as they are
+            write(path, "shapes.py", shape, count // 20 if shape == "deep" else count)
             row(program, "%s %d" % (shape, count), path, (0,) if shape in shapes.PLAIN else (1,))
 
 
 def greatest(program, path):
-    write_plain(path, GREATEST - 200)
+    write(path, "plain.py", GREATEST - 200)
     row(program, "plain", path)
     small = '{"":0}'
     with open(path, "w") as out:
