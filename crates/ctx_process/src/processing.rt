@@ -25,7 +25,7 @@ const REMOTE_CONTEXTS: u32 = 32;
 const SCOPED_CONTEXTS: u32 = 128;
 
 /// How many terms and contexts may be under way, each for the sake of the one before: what the stack is sure to hold.
-const CALLS: u32 = 500;
+const CALLS: u32 = 1_600;
 
 /// How a local context is processed.
 #[derive(Clone, Copy, Debug, PartialEq, Eq)]
@@ -49,7 +49,7 @@ pub struct Flags {
 ///
 /// # Limits
 ///
-/// A chain has at most 32 remote contexts, and at most 128 scoped contexts are under way. At most 500 calls are under way, each
+/// A chain has at most 32 remote contexts, and at most 128 scoped contexts are under way. At most 1,600 calls are under way, each
 /// for the sake of the one before: a term that is created, or a remote or scoped context that is processed. That is what the
 /// stack is sure to hold.
 ///
@@ -58,7 +58,7 @@ pub struct Flags {
 /// - `Refused` exactly where the definition ends in that error, but for want of memory. The 33rd remote context of a chain is
 ///   `context overflow`, the 129th scoped context under way is `invalid scoped context`, and an IRI without a scheme, or one
 ///   that the store doesn't have or has as unreadable, is `loading remote context failed`.
-/// - `OutOfMemory` where memory is refused, and where the 501st call would be under way: such a context has an answer by the
+/// - `OutOfMemory` where memory is refused, and where the 1,601st call would be under way: such a context has an answer by the
 ///   definition, and is counted as one for which there is no memory.
 #[tactic(auto, unfolding(ctx_model::specs::Process::process))]
 pub fn process(
