@@ -1,0 +1,27 @@
+// A context that is lent, or made here.
+ghost use Rattle.std.specs.Prelude.{◌≡◌};
+ghost use Rattle.ctx_types.specs.ContextView.{context_view};
+ghost use Rattle.expand_contexts.specs.View.{active_view};
+
+use ctx_types::ActiveContext;
+
+/// An active context: one that stands elsewhere, or one that was made for a value alone.
+#[derive(Drop)]
+pub enum Active<'a> {
+    /// It stands elsewhere.
+    Lent(&'a ActiveContext),
+    /// It was made here.
+    Own(ActiveContext),
+}
+
+impl<'a> Active<'a> {
+    /// The context.
+    pub fn get(&self) -> &ActiveContext
+        ensures { context_view result.now ≡ active_view self.now }
+    {
+        match self {
+            Active::Lent(context) => context,
+            Active::Own(context) => context,
+        }
+    }
+}

@@ -1,0 +1,11 @@
+pub mod Scope
+pub mod Values
+pub mod Contexts
+pub mod Entries
+pub mod Keywords
+pub mod Properties
+pub mod Indexes
+pub mod Finish
+pub mod Rules
+pub mod Over
+pub mod Expand
