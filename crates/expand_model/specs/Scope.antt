@@ -1,5 +1,5 @@
 -- What a value, and the entries of a map, are expanded with (JSON-LD 1.1 API, section 5.1.1), and small tests of values.
-use Rattle.std.specs.Prelude.{◌&&◌, ◌||◌, not, Bool, true, false, List, [], ◌∷◌, ◌++◌, ℕ, Option, None, Some, Result, Ok, Err, codes, is_some}
+use Rattle.std.specs.Prelude.{◌&&◌, ◌||◌, not, Bool, true, false, List, [], ◌∷◌, ◌++◌, ℕ, Option, None, Some, Result, Ok, Err, codes, is_some, if◌then◌else◌}
 use Rattle.std.specs.List.{list_any, list_all}
 use Rattle.std.specs.Option.{option_and_then, option_map_or}
 use Rattle.std.specs.Str.{bytes_eq}
@@ -50,9 +50,14 @@ in_key k p = p ++ Key k ∷ []
 abbrev pub in_item : ℕ → List Step → List Step
 in_item n p = p ++ Item n ∷ []
 
--- The definition of a property in a context.
+-- The active property is null or `@graph`: what stands there is at the top of a graph.
+abbrev pub is_top : Option Text → Bool
+is_top None = true
+is_top (Some p) = bytes_eq p (codes "@graph")
+
+-- The definition of the active property in a context; at the top of a graph there is none.
 abbrev pub definition_of : Option Text → Context → Option Definition
-definition_of p c = option_and_then (λ t. definition_at t c.current.terms) p
+definition_of p c = if is_top p then None else option_and_then (λ t. definition_at t c.current.terms) p
 
 -- The container mapping of a definition; no word where there is none.
 abbrev pub container_of : Option Definition → Shape
@@ -66,11 +71,6 @@ expands_to c word t = same_text (expand_iri c false true t) (Some word)
 -- A key of the map does.
 abbrev pub has_key : Settings → Text → Pairs → Bool
 has_key c word es = list_any (λ e. expands_to c word e.0) es
-
--- The active property is null or `@graph`: what stands there is at the top of a graph.
-abbrev pub is_top : Option Text → Bool
-is_top None = true
-is_top (Some p) = bytes_eq p (codes "@graph")
 
 -- A value made an array. [Ours: null is made the empty array.]
 abbrev pub as_items : Tree → List Tree

@@ -2,11 +2,13 @@
 ghost use Rattle.std.specs.Prelude.{◌≡◌};
 ghost use Rattle.std.specs.Option.{option_map};
 ghost use Rattle.expand_model.specs.Entries as entries;
-ghost use Rattle.expand_types.specs.View.{map_scope_view, scope_view, word_view};
+ghost use Rattle.ctx_types.specs.ContextView.{context_view};
+ghost use Rattle.expand_model.specs.Scope.{definition_of};
+ghost use Rattle.expand_types.specs.View.{definition_in, map_scope_view, scope_view, word_view};
 
 use case_tables::Keyword;
 use ctx_store::Store;
-use ctx_types::ActiveContext;
+use ctx_types::{ActiveContext, TermDef};
 use expand_model::Name;
 use ld_text::Text;
 
@@ -41,6 +43,19 @@ pub struct MapScope<'a> {
     pub json: bool,
     /// The active property of the map; None is null.
     pub property: Option<&'a str>,
+}
+
+impl<'a> Scope<'a> {
+    /// The definition of the active property; at the top of a graph there is none.
+    pub fn definition(&self) -> Option<&'a TermDef>
+        ensures { definition_in result ≡ definition_of (word_view self.now.property) (context_view self.now.context.now) }
+    {
+        match self.property {
+            None => None,
+            Some("@graph") => None,
+            Some(property) => self.context.terms.get(property),
+        }
+    }
 }
 
 /// What the value of an entry is expanded with, whose key stands for `name` (JSON-LD 1.1 API, section 5.1.2, steps 13.4 and 13.9).
