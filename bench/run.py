@@ -1,7 +1,9 @@
 #!/usr/bin/env python3
 """Measures the program on documents of growing size, beside `jq -c .` on the same file, in one run.
 
-Usage: run.py PROGRAM [BYTES ..]       plain documents of about so many bytes (1, 10 and 100 MB where none is given)
+Usage: run.py PROGRAM [BYTES ..]       plain documents of about so many bytes (1, 10 and 100 MB where none is given), flattened
+       run.py PROGRAM expand [BYTES ..]  the same documents, and catalogues under one context, expanded
+       run.py PROGRAM contexts [COUNT ..]  documents of each shape of contexts.py (10,000 and 100,000), expanded
        run.py PROGRAM shapes [COUNT ..]  documents of each shape of shapes.py (10,000, 30,000 and 100,000)
        run.py PROGRAM greatest        two documents of 256 MiB, the greatest that is read: the usual one, and one of small objects
 
@@ -19,6 +21,7 @@ import time
 
 HERE = os.path.dirname(os.path.abspath(__file__))
 sys.path.insert(0, HERE)
+import contexts  # noqa: E402
 import shapes  # noqa: E402
 
 GREATEST = 268_435_456
@@ -53,9 +56,9 @@ def head():
     print("%-24s %11s %8s %9s %8s %8s %9s %7s %7s" % ("document", "bytes", "cpu s", "peak MB", "B/byte", "jq s", "jq MB", "time", "memory"))
 
 
-def row(program, name, path, statuses=(0,)):
+def row(program, name, path, statuses=(0,), words=("flatten",)):
     length = os.path.getsize(path)
-    _, cpu, peak = measure([program, "flatten"], path, statuses)
+    _, cpu, peak = measure([program, *words], path, statuses)
     line = "%-24s %11d %8.3f %9.1f %8.1f" % (name, length, cpu, peak / 1e6, peak / length)
     jq = shutil.which("jq")
     if jq:
@@ -66,27 +69,44 @@ def row(program, name, path, statuses=(0,)):
     print(line, flush=True)
 
 
-def write(path, script, *words):
+def written(path, script, *words):
     with open(path, "wb") as out:
         subprocess.run([sys.executable, os.path.join(HERE, script), *map(str, words)], stdout=out, check=True)
 
 
 def plain(program, path, sizes):
     for size in sizes:
-        write(path, "plain.py", size)
+        written(path, "plain.py", size)
         row(program, "plain", path)
+
+
+def expanded(program, path, sizes):
+    for size in sizes:
+        written(path, "plain.py", size)
+        row(program, "plain", path, words=("expand",))
+    for size in sizes:
+        # a record of the catalogue has some 220 bytes
+        written(path, "contexts.py", "catalogue", max(1, size // 220), "contexts")
+        row(program, "catalogue", path, words=("expand",))
+
+
+def each_context(program, path, counts):
+    for shape in contexts.SHAPES:
+        for count in counts:
+            written(path, "contexts.py", shape, count, "contexts")
+            row(program, "%s %d" % (shape, count), path, words=("expand", "--base", "http://b.example/", "--contexts"))
 
 
 def each_shape(program, path, counts):
     for shape in shapes.SHAPES:
         for count in counts:
             # in a process of its own, so that this one stays small; arrays a hundred deep are wide enough as they are
-            write(path, "shapes.py", shape, count // 20 if shape == "deep" else count)
+            written(path, "shapes.py", shape, count // 20 if shape == "deep" else count)
             row(program, "%s %d" % (shape, count), path, (0,) if shape in shapes.PLAIN else (1,))
 
 
 def greatest(program, path):
-    write(path, "plain.py", GREATEST - 200)
+    written(path, "plain.py", GREATEST - 200)
     row(program, "plain", path)
     small = '{"":0}'
     with open(path, "w") as out:
@@ -105,10 +125,16 @@ def main():
     head()
     with tempfile.TemporaryDirectory() as folder:
         path = os.path.join(folder, "document.json")
+        # the program takes the folder `contexts` of the folder that it runs in
+        os.chdir(folder)
         if words[:1] == ["shapes"]:
             each_shape(program, path, [int(word) for word in words[1:]] or [10**4, 3 * 10**4, 10**5])
         elif words == ["greatest"]:
             greatest(program, path)
+        elif words[:1] == ["expand"]:
+            expanded(program, path, [int(word) for word in words[1:]] or [10**6, 10**7, 10**8])
+        elif words[:1] == ["contexts"]:
+            each_context(program, path, [int(word) for word in words[1:]] or [10**4, 10**5])
         else:
             plain(program, path, [int(word) for word in words] or [10**6, 10**7, 10**8])
 

@@ -7,9 +7,9 @@ out=$(mktemp) && err=$(mktemp) || exit 1
 trap 'rm -f "$out" "$err"' EXIT
 failed=0
 
-# name, wanted status, wanted output (a file), wanted error line; the document comes from standard input
+# name, wanted status, wanted output (a file), wanted error line, words; the document comes from standard input
 check() {
-  "$program" flatten > "$out" 2> "$err"
+  "$program" "${@:5}" > "$out" 2> "$err"
   local status=$?
   if [ "$status" -eq "$2" ] && cmp -s "$out" "$3" && [ "$(cat "$err")" = "$4" ]; then
     echo "ok: $1"
@@ -19,12 +19,18 @@ check() {
   fi
 }
 
-check catalogue.jsonld 0 catalogue.flattened.jsonld '' < catalogue.jsonld
-check catalogue.flattened.jsonld 0 catalogue.flattened.jsonld '' < catalogue.flattened.jsonld
-check typed.jsonld 1 /dev/null 'error: not built' < typed.jsonld
+check catalogue.jsonld 0 catalogue.flattened.jsonld '' flatten < catalogue.jsonld
+check catalogue.flattened.jsonld 0 catalogue.flattened.jsonld '' flatten < catalogue.flattened.jsonld
+check typed.jsonld 1 /dev/null 'error: not built' flatten < typed.jsonld
 if command -v jq > /dev/null; then
-  check 'two catalogues' 0 merged.flattened.jsonld '' < <(jq -c -n '[inputs[]]' catalogue.jsonld donation.jsonld)
+  check 'two catalogues' 0 merged.flattened.jsonld '' flatten < <(jq -c -n '[inputs[]]' catalogue.jsonld donation.jsonld)
 else
   echo 'skipped: two catalogues, there is no jq here'
 fi
+
+# its contexts stand in the folder `contexts` beside it
+cd library || exit 1
+check library.jsonld 0 library.expanded.jsonld '' expand --base http://library.example/ --contexts < library.jsonld
+check 'library.jsonld without its contexts' 1 /dev/null 'error: loading remote context failed at the root' expand < library.jsonld
+check wrong.jsonld 1 /dev/null 'error: invalid value object at /@graph/0/author/born' expand --base http://library.example/ --contexts < wrong.jsonld
 exit "$failed"

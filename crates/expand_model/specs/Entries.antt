@@ -42,7 +42,7 @@ name_of c k = if bytes_eq k (codes "@context") then Dropped else name_by (expand
 abbrev pub keyword_task : Option Text → Word → Tree → Task
 keyword_task p word.Graph t = Expands
 keyword_task p word.Included t = Expands
-keyword_task p word.ListWord t = if is_top p then Tells else Expands
+keyword_task p word.List t = if is_top p then Tells else Expands
 keyword_task p word.Set t = Expands
 keyword_task p word.Reverse t = if is_map t then Expands else Tells
 keyword_task p _ t = Tells
@@ -64,7 +64,7 @@ task_of p d (Property i) t = property_task d t
 abbrev pub property_under : Name → Text → Option Text → Option Text
 property_under (Keyword word.Graph) k p = Some (codes "@graph")
 property_under (Keyword word.Included) k p = None
-property_under (Keyword word.ListWord) k p = p
+property_under (Keyword word.List) k p = p
 property_under (Keyword word.Set) k p = p
 property_under (Keyword word.Reverse) k p = Some (codes "@reverse")
 property_under _ k p = Some k

@@ -139,7 +139,7 @@ reverse_map_added v r = each_reversed (members_in v) (forward_added (reversed_in
 unfoldable pub keyword_added : Word → Tree → Pairs → Result Pairs Code
 keyword_added word.Graph v r = Ok (put (codes "@graph") (array (trees_of (as_items v))) r)
 keyword_added word.Included v r = included_added v r
-keyword_added word.ListWord v r = Ok (put (codes "@list") (array (trees_of (as_items v))) r)
+keyword_added word.List v r = Ok (put (codes "@list") (array (trees_of (as_items v))) r)
 keyword_added word.Set v r = Ok (put (codes "@set") v r)
 keyword_added word.Reverse v r = reverse_map_added v r
 keyword_added _ v r = Ok r

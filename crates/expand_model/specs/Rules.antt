@@ -9,7 +9,6 @@ use Rattle.ld_model.specs.Tree.{Tree, Pairs, null, object, no_members, member, m
 use Rattle.case_tables.specs.declared.code.Code.{Code}
 use Rattle.case_tables.specs.declared.code.Code.TheVariants as code
 use Rattle.ctx_types.specs.Context.{Text, Definition, Context, definition_at, initial}
-use Rattle.ctx_model.specs.Outcome as plain
 use Rattle.ctx_model.specs.Outcome.{unless}
 use Rattle.expand_model.specs.declared.Name.{Name}
 use Rattle.expand_model.specs.declared.Name.TheVariants.{Dropped, Keyword, Property}
@@ -46,7 +45,7 @@ abbrev pub or_null : Option Tree → Tree
 or_null t = unwrap_or t null
 
 abbrev pub scalar_in : Options → Text → Tree → Scope → Result Tree Code
-scalar_in o p t a = plain.>>= (in_property o (definition_at p a.context.current.terms) a.context) (λ c. Ok (or_null (expand_value c.current p t)))
+scalar_in o p t a = in_property o (definition_of (Some p) a.context) a.context >>= (λ c. Ok (or_null (expand_value c.current p t)))
 
 abbrev pub scalar_under : Options → Option Text → Tree → Scope → Result Tree Code
 scalar_under o None t a = Ok null
@@ -75,7 +74,7 @@ entered_at o es a = entered_within a.place (entered o es a.scope)
 
 -- Steps 15 to 20.
 abbrev pub finished : Pairs → Option Text → Result Tree Code
-finished r p = plain.>>= (finish_map r p) (λ t. Ok (or_null t))
+finished r p = finish_map r p >>= (λ t. Ok (or_null t))
 
 abbrev pub finished_at : At → Pairs → Result Tree Fault
 finished_at a r = located a.place (finished r a.scope.property)

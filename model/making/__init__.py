@@ -1,0 +1,9 @@
+"""How cases are made.
+
+    alphabet    names and values
+    maker       random contexts and documents
+    documents   random cases, and changes to good documents
+    sentences   documents around one part of the algorithms each
+    errors      a few ways to each error code
+    outside     cases of bytes, words and folders
+"""
