@@ -1,3 +1,2 @@
-pub mod PlainDocument
 pub mod Nodes
 pub mod Says

@@ -1,3 +1,4 @@
+pub mod Words
 pub mod Out
 pub mod Lines
 pub mod Stops

@@ -5,7 +5,7 @@ use Rattle.ld_io.specs.Faults.{Rose}
 use Rattle.ld_io.specs.Sinks.{IsFinished, AppendsFront}
 use Rattle.ld_run.specs.declared.status.Status.{Status}
 use Rattle.ld_run.specs.declared.status.Status.TheVariants as status
-use Rattle.ld_run.specs.declared.status.Status.TheVariants.{Done, Refused, Usage, ReadFault, WriteFault, TooLarge, OutOfMemory}
+use Rattle.ld_run.specs.declared.status.Status.TheVariants.{Done, Refused, Usage, ReadFault, FolderFault, WriteFault, TooLarge, OutOfMemory}
 use Rattle.ld_run.specs.Lines.{line_of}
 use Rattle.ld_run.specs.Out.{Out, bytes, refused, usage, too_large}
 
@@ -56,19 +56,21 @@ abbrev pub WritesFront : Out → Sunk → Type 0
 WritesFront (bytes b) out = AppendsFront out.old out.new b
 WritesFront _ out = ⊤
 
--- When the line of a status may stand, in part or whole, in the error output after a fault of writing.
-abbrev pub MaySay : Option Out → ℕ → ℕ → Sunk → Status → Type 0
-MaySay due before now out Done = ⊥
-MaySay due before now out (Refused r) = IfSome due (λ d. d ≡ refused r)
-MaySay due before now out Usage = due ≡ Some usage
-MaySay due before now out TooLarge = IfSome due (λ d. d ≡ too_large)
-MaySay due before now out ReadFault = Rose before now
-MaySay due before now out WriteFault = HasRisen out
-MaySay due before now out OutOfMemory = ⊤
+-- When the line of a status may stand, in part or whole, in the error output after a fault of writing: by what is due, and by the causes
+-- of a fault of the source and of the folder.
+abbrev pub MaySay : Option Out → Type 0 → Type 0 → Sunk → Status → Type 0
+MaySay due source folder out Done = ⊥
+MaySay due source folder out (Refused r) = IfSome due (λ d. d ≡ refused r)
+MaySay due source folder out Usage = due ≡ Some usage
+MaySay due source folder out TooLarge = IfSome due (λ d. d ≡ too_large)
+MaySay due source folder out ReadFault = source
+MaySay due source folder out FolderFault = folder
+MaySay due source folder out WriteFault = HasRisen out
+MaySay due source folder out OutOfMemory = ⊤
 
 -- Some front of the line of a status that may stand there.
-abbrev pub SaysFront : Option Out → ℕ → ℕ → Sunk → Sunk → Type 0
-SaysFront due before now out err = (s : Status) × MaySay due before now out s × AppendsFront err.old err.new (line_of s)
+abbrev pub SaysFront : Option Out → Type 0 → Type 0 → Sunk → Sunk → Type 0
+SaysFront due source folder out err = (s : Status) × MaySay due source folder out s × AppendsFront err.old err.new (line_of s)
 
 -- The status of what is due.
 abbrev pub status_for : Out → Status

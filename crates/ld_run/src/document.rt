@@ -1,135 +1,90 @@
-// From the bytes of a document to those of its flattened form.
-ghost use Rattle.std.specs.Prelude.{◌≡◌, ◌++◌, ◌∷◌, [], List, ℕ, true, false, IfOk, OnOk, MatchOption, MatchResult};
+// From the bytes of a document to the items that a command gives of it.
+ghost use Rattle.std.specs.Prelude.{◌≡◌, ◌++◌, ◌∷◌, [], List, ℕ, true, Ok, IfOk, OnOk, MatchResult};
 ghost use Rattle.std.specs.Option.{option_map};
-ghost use Rattle.ld_model.specs.Tree as model;
-ghost use Rattle.ld_model.specs.Tree.{Pairs, array, object, trees_of, members_of};
-ghost use Rattle.ld_model.specs.CompactText.{compact};
+ghost use Rattle.ld_model.specs.Tree.{Pairs, object, members_of};
 ghost use Rattle.ld_model.specs.Keys.{default_graph};
 ghost use Rattle.ld_model.specs.Flatten.{graph_of, has_more, nodes_of, flatten};
 ghost use Rattle.ld_model.specs.NodeMap.{generate};
-ghost use Rattle.ld_model.specs.Plain.{is_plain, are_plain_items};
+ghost use Rattle.ld_model.specs.Plain.{are_plain_items};
 ghost use Rattle.ld_tree.specs.View.{view};
-ghost use Rattle.ld_json.specs.Read.{reading, reads};
-ghost use Rattle.ld_run.specs.Out.{Out, flat};
-ghost use Rattle.ld_run.specs.Stops.{IsStopOf};
+ghost use Rattle.ld_json.specs.Read.{reading};
+ghost use Rattle.ld_run.specs.Out.{parsed, expanded, flattened, given, items_for, text_line};
+ghost use Rattle.ld_run.specs.Stops.{IsStopOf, Answers};
 
-use crate::plain::is_plain;
+use crate::plain::are_plain_items;
 use crate::status::Refusal;
-use ld_io::ReadStop;
-use ld_json::{Members, ReadRefusal, Text, Tree, Trees, read_tree, text_of};
-use node_ops::{MapStop, NodeMap, into_node_map};
+use crate::stop::Stop;
+use crate::words::{Command, Order};
+use ctx_store::Store;
+use ld_json::{Members, Text, Tree, Trees, read_tree, text_of};
+use node_ops::{NodeMap, into_node_map};
 use std::alloc::{AllocError, Global};
+use tree_expand::expand_document;
 
-/// Why there is nothing to write.
-#[derive(Debug, Drop)]
-pub(crate) enum Stop {
-    Refused(Refusal),
-    Usage,
-    ReadFault,
-    TooLarge,
-    OutOfMemory,
-}
-
-impl From<AllocError> for Stop {
-    ghost use Rattle.ld_run.specs.declared.document.Stop.TheVariants.{OutOfMemory};
-
-    ghost from_gives = { λ _ stop. stop ≡ OutOfMemory };
-
-    fn from(_error: AllocError) -> Stop {
-        Stop::OutOfMemory
-    }
-}
-
-impl From<ReadStop> for Stop {
-    ghost use Rattle.ld_run.specs.Stops.{stop_of_read};
-
-    ghost from_gives = { λ read stop. stop ≡ stop_of_read read };
-
-    fn from(read: ReadStop) -> Stop {
-        match read {
-            ReadStop::Failed => Stop::ReadFault,
-            ReadStop::TooLarge => Stop::TooLarge,
-            ReadStop::OutOfMemory => Stop::OutOfMemory,
-        }
-    }
-}
-
-impl From<ReadRefusal> for Stop {
-    ghost use Rattle.ld_run.specs.Stops.{stop_of_refusal};
-
-    ghost from_gives = { λ refusal stop. stop ≡ stop_of_refusal refusal };
-
-    fn from(refusal: ReadRefusal) -> Stop {
-        match refusal {
-            ReadRefusal::Syntax => Stop::Refused(Refusal::Syntax),
-            ReadRefusal::Number { at } => Stop::Refused(Refusal::Number { at }),
-            ReadRefusal::VersionNumber { place } => Stop::Refused(Refusal::VersionNumber { place }),
-            ReadRefusal::OutOfMemory => Stop::OutOfMemory,
-        }
-    }
-}
-
-/// The text of the flattened document, with a line feed.
-pub(crate) fn flattened_text(alloc: Global, bytes: Vec<u8>) -> Result<Vec<u8>, Stop>
-    ensures { MatchResult result (λ v. flat bytes.items ≡ Out.bytes v.items) (λ stop. IsStopOf stop (flat bytes.items)) }
+/// The items that an order gives for a document, with the contexts of the store. What a stage no longer needs is let go before the
+/// next one grows: the bytes once the tree stands, the tree and the store once the items are expanded.
+pub(crate) fn items_for(
+    alloc: Global,
+    order: Order,
+    store: Store,
+    bytes: Vec<u8>,
+) -> Result<Trees, Stop>
+    ensures { Answers result (items_for order store bytes.items) }
 {
-    let items = plain_items(alloc, bytes)?;
-    let nodes = flattened(alloc, items)?;
-    let text = line_of(alloc, &Tree::Items(nodes))?;
-    Ok(text)
+    let Order { command, base, .. } = order;
+    let items = expanded(alloc, base, store, bytes)?;
+    given(alloc, command, items)
 }
 
-/// The compact text of a tree, with a line feed.
-fn line_of(alloc: Global, tree: &Tree) -> Result<Vec<u8>, AllocError>
-    ensures { IfOk result (λ v. v.items ≡ compact (view tree.now) ++ 10 ∷ []) }
+/// The compact text of an array of these items, with a line feed.
+pub(crate) fn text_line(alloc: Global, items: Trees) -> Result<Vec<u8>, AllocError>
+    ensures { IfOk result (λ v. v.items ≡ text_line items) }
 {
-    let mut text = text_of(alloc, tree)?;
+    let mut text = text_of(alloc, &Tree::Items(items))?;
     text.push(b'\n')?;
     Ok(text)
 }
 
-/// The items of a plain document. Its bytes are let go.
-fn plain_items(alloc: Global, bytes: Vec<u8>) -> Result<Trees, Stop>
-    ensures { MatchResult result (λ items. (reading bytes.items ≡ reads (array (trees_of items))) × (are_plain_items items ≡ true))
-        (λ stop. IsStopOf stop (flat bytes.items)) }
+/// The expanded items of a document (JSON-LD 1.1 API, section 9.1.2, expand).
+fn expanded(alloc: Global, base: Option<Text>, store: Store, bytes: Vec<u8>) -> Result<Trees, Stop>
+    ensures { Answers result (expanded base store bytes.items) }
 {
-    let tree = read(alloc, bytes.as_slice())?;
-    match items_of(tree) {
-        Some(items) => Ok(items),
-        None => Err(Stop::Refused(Refusal::NotBuilt)),
-    }
+    let tree = parsed(alloc, bytes)?;
+    let items = expand_document(alloc, &tree, base.as_ref(), &store)?;
+    Ok(items)
 }
 
-/// The items of a document that is plain.
-fn items_of(tree: Tree) -> Option<Trees>
-    ensures { MatchOption result (is_plain (view tree) ≡ false)
-        (λ items. (view tree ≡ array (trees_of items)) × (are_plain_items items ≡ true)) }
+/// The tree that a document reads as. Its bytes are let go.
+fn parsed(alloc: Global, bytes: Vec<u8>) -> Result<Tree, Stop>
+    ensures { MatchResult result (λ t. parsed (reading bytes.items) ≡ Ok (view t)) (λ stop. IsStopOf stop (parsed (reading bytes.items))) }
 {
-    if is_plain(&tree) {
-        array_items(tree)
-    } else {
-        None
-    }
-}
-
-fn array_items(tree: Tree) -> Option<Trees>
-    ensures { MatchOption result (is_plain (view tree) ≡ false) (λ items. view tree ≡ array (trees_of items)) }
-{
-    match tree {
-        Tree::Items(items) => Some(items),
-        _ => None,
-    }
-}
-
-fn read(alloc: Global, bytes: &[u8]) -> Result<Tree, Stop>
-    ensures { MatchResult result (λ t. reading bytes.now ≡ reads (view t)) (λ stop. IsStopOf stop (flat bytes.now)) }
-{
-    let tree = read_tree(alloc, bytes)?;
+    let tree = read_tree(alloc, bytes.as_slice())?;
     Ok(tree)
 }
 
-/// The flattened document (JSON-LD 1.1 API, section 7.1). The document is taken apart for its node map.
-fn flattened(alloc: Global, items: Trees) -> Result<Trees, AllocError>
+/// What a command gives of expanded items.
+fn given(alloc: Global, command: Command, items: Trees) -> Result<Trees, Stop>
+    ensures { Answers result (given command items) }
+{
+    match command {
+        Command::Flatten => flattened(alloc, items),
+        Command::Expand => Ok(items),
+    }
+}
+
+/// The flattened form of expanded items, where they are plain.
+fn flattened(alloc: Global, items: Trees) -> Result<Trees, Stop>
+    ensures { Answers result (flattened items) }
+{
+    if !are_plain_items(&items) {
+        return Err(Stop::Refused(Refusal::NotBuilt));
+    }
+    let nodes = flatten_plain(alloc, items)?;
+    Ok(nodes)
+}
+
+/// The flattened form of plain items (JSON-LD 1.1 API, section 7.1). They are taken apart for their node map.
+fn flatten_plain(alloc: Global, items: Trees) -> Result<Trees, AllocError>
     requires { are_plain_items items ≡ true }
     ensures { IfOk result (λ nodes. nodes ≡ flatten (generate items).graphs) }
 {

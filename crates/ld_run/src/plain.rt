@@ -1,23 +1,14 @@
-// Whether a document is plain.
+// Whether an expanded document is plain.
 ghost use Rattle.std.specs.Prelude.{◌≡◌};
-ghost use Rattle.ld_model.specs.Plain.{is_plain, is_plain_item, are_plain_items, is_plain_member, are_plain_members, is_plain_array, is_plain_entry, are_plain_entries, is_iri_text};
+ghost use Rattle.ld_model.specs.Plain.{is_plain_item, are_plain_items, is_plain_member, are_plain_members, is_plain_array, is_plain_entry, are_plain_entries, is_iri_text};
 ghost use Rattle.ld_tree.specs.View.{view};
 ghost use Rattle.ld_run.specs.PlainPair.{is_plain_pair, is_plain_object};
 
 use iri_ref::has_scheme;
 use ld_json::{Members, Text, Tree, Trees};
 
-/// Whether a document is an array of node objects with an id, whose properties have arrays of texts and references.
-pub(crate) fn is_plain(tree: &Tree) -> bool
-    ensures { result ≡ is_plain (view tree.now) }
-{
-    match tree {
-        Tree::Items(items) => are_plain_items(items),
-        _ => false,
-    }
-}
-
-fn are_plain_items(items: &Trees) -> bool
+/// Whether items are node objects with an id, whose properties have arrays of texts and references.
+pub(crate) fn are_plain_items(items: &Trees) -> bool
     ensures { result ≡ are_plain_items items.now }
 {
     for item in items {

@@ -1,6 +1,7 @@
 // Statuses and refusals in words, which are those of their lines.
 use crate::status::{
-    NOT_BUILT, OUT_OF_MEMORY, READ_FAULT, Refusal, SYNTAX, Status, TOO_LARGE, USAGE, WRITE_FAULT,
+    FOLDER_FAULT, NOT_BUILT, OUT_OF_MEMORY, READ_FAULT, Refusal, SYNTAX, Status, TOO_LARGE, USAGE,
+    WRITE_FAULT,
 };
 use std::error::Error;
 use std::fmt;
@@ -18,6 +19,7 @@ impl fmt::Display for Status {
             Status::Refused(refusal) => refusal.fmt(f),
             Status::Usage => f.write_str(words(USAGE)),
             Status::ReadFault => f.write_str(words(READ_FAULT)),
+            Status::FolderFault => f.write_str(words(FOLDER_FAULT)),
             Status::WriteFault => f.write_str(words(WRITE_FAULT)),
             Status::TooLarge => f.write_str(words(TOO_LARGE)),
             Status::OutOfMemory => f.write_str(words(OUT_OF_MEMORY)),
@@ -28,9 +30,12 @@ impl fmt::Display for Status {
 impl fmt::Display for Refusal {
     fn fmt<W: fmt::Write>(&self, f: &mut fmt::Formatter<W>) -> fmt::Result {
         match self {
+            Refusal::IndexLine { line } => write!(f, "context index line {line}"),
+            Refusal::Missing { line } => write!(f, "missing context file at index line {line}"),
             Refusal::Syntax => f.write_str(words(SYNTAX)),
             Refusal::Number { at } => write!(f, "number at byte {at}"),
             Refusal::VersionNumber { place } => write!(f, "version number at {place}"),
+            Refusal::Expansion { code, place } => write!(f, "{} at {place}", code.name()),
             Refusal::NotBuilt => f.write_str(words(NOT_BUILT)),
         }
     }

@@ -3,6 +3,7 @@ ghost use Rattle.std.specs.Prelude.{◌≡◌, IfOk};
 ghost use Rattle.std.specs.Cow.{cow_str_bytes};
 ghost use Rattle.ld_run.specs.Lines.{line_of, number_of, refusal_line};
 
+use case_tables::Code;
 use ld_json::{Place, pointer_of};
 use std::alloc::{AllocError, Global};
 use std::borrow::CowStr;
@@ -13,6 +14,8 @@ pub const OUT_OF_MEMORY: &str = "error: out of memory\n";
 pub(crate) const USAGE: &str = "error: usage\n";
 
 pub(crate) const READ_FAULT: &str = "error: read fault\n";
+
+pub(crate) const FOLDER_FAULT: &str = "error: folder fault\n";
 
 pub(crate) const WRITE_FAULT: &str = "error: write fault\n";
 
@@ -25,6 +28,16 @@ pub(crate) const NOT_BUILT: &str = "error: not built\n";
 /// Why an input gives nothing to write. It is printed as its line says it, without `error: ` and the line feed.
 #[derive(Debug, Drop)]
 pub enum Refusal {
+    /// A line of the folder's index is neither empty, nor an IRI that no line before it has, a space and a file's name.
+    IndexLine {
+        /// The number of the first such line, counted from 1.
+        line: u64,
+    },
+    /// A line of the folder's index names a file that isn't there.
+    Missing {
+        /// The number of the first such line, counted from 1.
+        line: u64,
+    },
     /// The input is no JSON text: no UTF-8, not the grammar of RFC 8259, or nested more than 127 deep.
     Syntax,
     /// A number is neither `0`, nor `1.1`, nor a whole number of a magnitude of at most 9,007,199,254,740,992 without a
@@ -38,7 +51,14 @@ pub enum Refusal {
         /// The first place where it does, in the order of keys and items.
         place: Place,
     },
-    /// The input has what this version doesn't convert yet: anything that isn't plain.
+    /// The document can't be expanded (JSON-LD 1.1 API, section 5.1).
+    Expansion {
+        /// The standard's error code (JSON-LD 1.1 API, section 9.6) of the first error that the traversal meets.
+        code: Code,
+        /// The place of that error.
+        place: Place,
+    },
+    /// The expanded document has what flattening doesn't convert yet: anything that isn't plain.
     NotBuilt,
 }
 
@@ -48,12 +68,14 @@ pub enum Refusal {
 pub enum Status {
     /// The due bytes were written and the output was finished.
     Done,
-    /// The input was read to its end and is refused.
+    /// The folder of contexts or the input is refused.
     Refused(Refusal),
-    /// The words are no command.
+    /// The words give no order.
     Usage,
     /// The source failed.
     ReadFault,
+    /// The folder of contexts failed.
+    FolderFault,
     /// The output or the error output failed.
     WriteFault,
     /// The input has more than 268,435,456 bytes.
@@ -72,6 +94,7 @@ impl Status {
             Status::Refused(_) => 1,
             Status::Usage => 2,
             Status::ReadFault => 3,
+            Status::FolderFault => 4,
             Status::WriteFault => 5,
             Status::TooLarge => 6,
             Status::OutOfMemory => 7,
@@ -88,6 +111,7 @@ impl Status {
             Status::Refused(refusal) => return refusal.line(alloc),
             Status::Usage => USAGE,
             Status::ReadFault => READ_FAULT,
+            Status::FolderFault => FOLDER_FAULT,
             Status::WriteFault => WRITE_FAULT,
             Status::TooLarge => TOO_LARGE,
             Status::OutOfMemory => OUT_OF_MEMORY,
@@ -101,6 +125,14 @@ impl Refusal {
         ensures { IfOk result (λ line. cow_str_bytes line ≡ refusal_line self.now) }
     {
         match self {
+            Refusal::IndexLine { line } => {
+                let line = format!(in alloc; "error: context index line {line}\n")?;
+                Ok(CowStr::Owned(line))
+            }
+            Refusal::Missing { line } => {
+                let line = format!(in alloc; "error: missing context file at index line {line}\n")?;
+                Ok(CowStr::Owned(line))
+            }
             Refusal::Syntax => Ok(CowStr::Borrowed(SYNTAX)),
             Refusal::Number { at } => {
                 let line = format!(in alloc; "error: number at byte {at}\n")?;
@@ -109,6 +141,11 @@ impl Refusal {
             Refusal::VersionNumber { place } => {
                 let pointer = pointer_of(alloc, place)?;
                 let line = format!(in alloc; "error: version number at {}\n", pointer.as_str())?;
+                Ok(CowStr::Owned(line))
+            }
+            Refusal::Expansion { code, place } => {
+                let pointer = pointer_of(alloc, place)?;
+                let line = format!(in alloc; "error: {} at {}\n", code.name(), pointer.as_str())?;
                 Ok(CowStr::Owned(line))
             }
             Refusal::NotBuilt => Ok(CowStr::Borrowed(NOT_BUILT)),
