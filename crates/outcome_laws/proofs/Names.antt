@@ -16,13 +16,16 @@ use Rattle.expand_model.specs.Entries.{word_among, property_named, name_as, name
 abbrev pub HasColon : Text → Type 0
 HasColon k = list_any colon k ≡ true
 
--- A text with a colon is not one without.
-pub apart : (k w : Text) → HasColon k → list_any colon w ≡ false → bytes_eq k w ≡ false
-apart k w has none = by (bytes_eq k w) refl
+-- A text that passes a test is none that fails it.
+pub told_apart : (test : Text → Bool) (k w : Text) → test k ≡ true → test w ≡ false → bytes_eq k w ≡ false
+told_apart test k w passes fails = by (bytes_eq k w) refl
   where
     by : (b : Bool) → bytes_eq k w ≡ b → b ≡ false
-    by true same = let never : true ≡ false = sym has ∙ ap (list_any colon) (bytes_eq-exact k w same) ∙ none in absurd (cc)
+    by true same = let never : true ≡ false = sym passes ∙ ap test (bytes_eq-exact k w same) ∙ fails in absurd (cc)
     by false same = refl
+
+pub apart : (k w : Text) → HasColon k → list_any colon w ≡ false → bytes_eq k w ≡ false
+apart k w has none = told_apart (list_any colon) k w has none
 
 -- The name of a property has a colon.
 abbrev pub IsNamed : Name → Type 0
