@@ -6,3 +6,9 @@ pub mod TopNodes
 pub mod PlainKeys
 pub mod PlainMaps
 pub mod PlainItems
+pub mod Lookups
+pub mod ObjectValues
+pub mod ObjectEntries
+pub mod ObjectFinish
+pub mod ObjectIndexes
+pub mod ObjectNodes

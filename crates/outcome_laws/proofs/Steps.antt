@@ -1,8 +1,9 @@
 -- Steps that give a value or an error, and what holds of the value.
-use Rattle.std.proofs.Common.{◌≡◌, List, [], ◌∷◌, ◌++◌, Bool, true, false, Result, Ok, Err, subst, IfOk, if◌then◌else◌}
+use Rattle.std.proofs.Common.{◌≡◌, List, [], ◌∷◌, ◌++◌, Bool, true, false, Result, Ok, Err, refl, subst, IfOk, if◌then◌else◌}
 use Rattle.std.specs.List.{AllByRecursion}
 use Rattle.ld_json.specs.declared.location.Step.{Step}
 use Rattle.case_tables.specs.declared.code.Code.{Code}
+use Rattle.ctx_model.specs.Outcome.{unless}
 use Rattle.expand_model.specs.Scope.{located}
 use Rattle.expand_model.specs.Rules.{◌>>=◌}
 
@@ -18,6 +19,11 @@ after Q R (Err e) h holds next = tt
 pub after_any : {A B E : Type 0} (R : B → Type 0) (r : Result A E) (h : A → Result B E) → ((a : A) → IfOk (h a) R) → IfOk (r >>= h) R
 after_any R (Ok a) h next = next a
 after_any R (Err e) h next = tt
+
+-- a test that passes
+pub after_unless : {B : Type 0} (R : B → Type 0) (b : Bool) (c : Code) (h : Unit {0} → Result B Code) → (b ≡ true → IfOk (h tt) R) → IfOk (unless b c >>= h) R
+after_unless R true c h next = next refl
+after_unless R false c h next = tt
 
 -- what holds of every value
 pub of_any : {A E : Type 0} (R : A → Type 0) (r : Result A E) → ((a : A) → R a) → IfOk r R

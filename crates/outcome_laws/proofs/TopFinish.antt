@@ -14,7 +14,7 @@ use Rattle.expand_model.specs.Finish.{are_value_entries, is_json_word, is_dataty
 use Rattle.expand_model.specs.Rules.{or_null, finished}
 use Rattle.outcome_laws.specs.Statements.{IsNodeObject}
 use Rattle.outcome_laws.proofs.Steps.{never, after, after_any, if_cond, all_map}
-use Rattle.outcome_laws.proofs.Names.{held}
+use Rattle.outcome_laws.proofs.Names.{HasColon, held}
 use Rattle.outcome_laws.proofs.TopEntries.{GraphFits, IsTopNode, IsReversal, is_under_reverse, Fits, AllFit, word_fits}
 
 -- what is dropped is null
@@ -44,7 +44,7 @@ either true b is = absurd (cc)
 either false b is = (refl, is)
 
 -- the types, as an array or as they are
-types_either : (Q : Pairs → Type 0) (o : Option Tree) (r : Pairs) → Q r → ((t : Tree) → Q (put (codes "@type") t r)) → Q (types_array o r)
+pub types_either : (Q : Pairs → Type 0) (o : Option Tree) (r : Pairs) → Q r → ((t : Tree) → Q (put (codes "@type") t r)) → Q (types_array o r)
 types_either Q None r same changed = same
 types_either Q (Some (array ts)) r same changed = same
 types_either Q (Some t) r same changed = changed (array (tree t no_trees))
@@ -117,38 +117,37 @@ module _ (p : Option Text) where
         (after TopOutcome (λ x. AllByRecursion IsTopNode (as_items (or_null x))) (by_value (member_at (codes "@value") r) r) _ (by_value_top r (member_at (codes "@value") r) refl all) (λ x holds. holds))
         (λ x holds. holds)
 
-  -- under `@reverse`
-  module _ (under : is_under_reverse p ≡ true) where
-    reversals : (r : Pairs) → AllFit p r → AllByRecursion IsReversal r
-    reversals r all = all_map (Fits p) IsReversal r (λ m fits. record { reverse = fits.reverse; key = fits.key under }) all
+-- Where each key is `@reverse` or has a colon, a map stays as it is.
+module _ (p : Option Text) (P : Text × Tree → Type 0) (key : (m : Text × Tree) → P m → bytes_eq m.0 (codes "@reverse") ≡ false → HasColon m.0) where
+  absent : (w : Text) (r : Pairs) → AllByRecursion P r → bytes_eq w (codes "@reverse") ≡ false → list_any colon w ≡ false → member_at w r ≡ None
+  absent w r all other none = by (member_at w r) refl
+    where
+      by : (o : Option Tree) → member_at w r ≡ o → o ≡ None
+      by None at = refl
+      by (Some t) at = never (list_any colon w) none (key (w, t) (held P w t r all at) other)
 
-    absent : (w : Text) (r : Pairs) → AllByRecursion IsReversal r → bytes_eq w (codes "@reverse") ≡ false → list_any colon w ≡ false → member_at w r ≡ None
-    absent w r are other none = by (member_at w r) refl
-      where
-        by : (o : Option Tree) → member_at w r ≡ o → o ≡ None
-        by None at = refl
-        by (Some t) at = never (list_any colon w) none ((held IsReversal w t r are at).key other)
+  abbrev SameOutcome : Option Tree → Type 0
+  SameOutcome x = AllByRecursion P (members_in (or_null (unless_dropped p x)))
 
-    abbrev ReverseOutcome : Option Tree → Type 0
-    ReverseOutcome x = AllByRecursion IsReversal (members_in (or_null (unless_dropped p x)))
+  map_same : (r : Pairs) → AllByRecursion P r → SameOutcome (Some (object (members_of r)))
+  map_same r all = or_dropped (λ t. AllByRecursion P (members_in t)) p (object (members_of r)) tt (λ kept. subst (AllByRecursion P) (sym (member_list-members_of r)) all)
 
-    map_reversed : (r : Pairs) → AllByRecursion IsReversal r → ReverseOutcome (Some (object (members_of r)))
-    map_reversed r are =
-        or_dropped (λ t. AllByRecursion IsReversal (members_in t)) p (object (members_of r)) tt (λ kept. subst (AllByRecursion IsReversal) (sym (member_list-members_of r)) are)
+  node_same : (r : Pairs) → AllByRecursion P r → IfOk (node_finished r) SameOutcome
+  node_same r all =
+      after_any SameOutcome (unless (not (is_set_or_list r) || are_set_entries r) code.InvalidSetOrListObject) _
+      (λ _. subst (λ o. SameOutcome (set_taken o r)) (sym (absent (codes "@set") r all refl refl)) (map_same r all))
 
-    node_reversed : (r : Pairs) → AllByRecursion IsReversal r → IfOk (node_finished r) ReverseOutcome
-    node_reversed r are =
-        after_any ReverseOutcome (unless (not (is_set_or_list r) || are_set_entries r) code.InvalidSetOrListObject) _
-        (λ _. subst (λ o. ReverseOutcome (set_taken o r)) (sym (absent (codes "@set") r are refl refl)) (map_reversed r are))
+  by_value_same : (r : Pairs) → AllByRecursion P r → IfOk (by_value None r) SameOutcome
+  by_value_same r all = subst (λ o. IfOk (node_finished (types_array o r)) SameOutcome) (sym (absent (codes "@type") r all refl refl)) (node_same r all)
 
-    by_value_reversed : (r : Pairs) → AllByRecursion IsReversal r → IfOk (by_value None r) ReverseOutcome
-    by_value_reversed r are = subst (λ o. IfOk (node_finished (types_array o r)) ReverseOutcome) (sym (absent (codes "@type") r are refl refl)) (node_reversed r are)
+  pub finished_same : (r : Pairs) → AllByRecursion P r → IfOk (finished r p) (λ v. AllByRecursion P (members_in v))
+  unfolding finish_map
+  finished_same r all =
+      after (λ x. AllByRecursion P (members_in (or_null x))) (λ v. AllByRecursion P (members_in v)) (finish_map r p) _
+      (after SameOutcome (λ x. AllByRecursion P (members_in (or_null x))) (by_value (member_at (codes "@value") r) r) _
+      (subst (λ o. IfOk (by_value o r) SameOutcome) (sym (absent (codes "@value") r all refl refl)) (by_value_same r all)) (λ x holds. holds))
+      (λ x holds. holds)
 
-    pub finished_reversed : (r : Pairs) → AllFit p r → IfOk (finished r p) (λ v. AllByRecursion IsReversal (members_in v))
-    unfolding finish_map
-    finished_reversed r all =
-        let are : AllByRecursion IsReversal r = reversals r all in
-        after (λ x. AllByRecursion IsReversal (members_in (or_null x))) (λ v. AllByRecursion IsReversal (members_in v)) (finish_map r p) _
-        (after ReverseOutcome (λ x. AllByRecursion IsReversal (members_in (or_null x))) (by_value (member_at (codes "@value") r) r) _
-        (subst (λ o. IfOk (by_value o r) ReverseOutcome) (sym (absent (codes "@value") r are refl refl)) (by_value_reversed r are)) (λ x holds. holds))
-        (λ x holds. holds)
+pub finished_reversed : (p : Option Text) → is_under_reverse p ≡ true → (r : Pairs) → AllFit p r → IfOk (finished r p) (λ v. AllByRecursion IsReversal (members_in v))
+finished_reversed p under r all =
+    finished_same p IsReversal (λ m is. is.key) r (all_map (Fits p) IsReversal r (λ m fits. record { reverse = fits.reverse; key = fits.key under }) all)

@@ -37,16 +37,16 @@ record Comes (t : Tree) (p : Option Text) (v : Tree) : Type 0 where
   reverse : is_map t ≡ true → is_under_reverse p ≡ true → AllByRecursion IsReversal (members_in v)
 
 -- the contexts leave the property as it is
-abbrev SameProperty : Option Text → Inside → Type 0
+abbrev pub SameProperty : Option Text → Inside → Type 0
 SameProperty p e = e.scope.property ≡ p
 
-scope_property : (o : Options) (es : Pairs) (a : Scope) → IfOk (entered o es a) (λ m. m.property ≡ a.property)
+pub scope_property : (o : Options) (es : Pairs) (a : Scope) → IfOk (entered o es a) (λ m. m.property ≡ a.property)
 unfolding entered
 scope_property o es a =
     after_any (λ m. m.property ≡ a.property) (in_map o a (is_left es a) _) _
     (λ types. after_any (λ m. m.property ≡ a.property) (typed o types es types) _ (λ c. refl))
 
-within_property : (p : Option Text) (at : List Step) (r : Result MapScope Code) → IfOk r (λ m. m.property ≡ p) → IfOk (entered_within at r) (SameProperty p)
+pub within_property : (p : Option Text) (at : List Step) (r : Result MapScope Code) → IfOk r (λ m. m.property ≡ p) → IfOk (entered_within at r) (SameProperty p)
 within_property p at (Ok m) same = same
 within_property p at (Err c) same = tt
 
