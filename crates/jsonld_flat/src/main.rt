@@ -1,13 +1,16 @@
-//! `jsonld_flat`: flattens a plain JSON-LD document from standard input to standard output.
+//! `jsonld_flat`: expands or flattens a JSON-LD document from standard input to standard output.
 //!
-//! All that it does is the call of [`ld_run::run_alone`]; here the real streams and the words are handed to it.
+//! All that it does is the call of [`ld_run::run_alone`]; here the real streams, the folder of contexts and the words are handed to it.
 #![tactic(auto)]
 
-use ld_io::{MapFolder, StdSink, StdSource};
+use ld_io::{DirFolder, StdSink, StdSource};
 use ld_run::{OUT_OF_MEMORY, Status, run_alone};
 use std::io::ErrorKind;
 use std::process::ExitCode;
 use std::{env, io};
+
+/// The folder of contexts, in the working folder.
+const CONTEXTS: &str = "contexts";
 
 fn main(rt: HostRuntime) -> ExitCode {
     let status = match words(&rt) {
@@ -31,8 +34,11 @@ fn words(rt: &HostRuntime) -> io::Result<Vec<String>> {
 }
 
 fn run(rt: &HostRuntime, words: &[String]) -> Status {
+    let Ok(path) = String::from_str(rt.alloc(), CONTEXTS) else {
+        return without_memory(rt);
+    };
     let mut source = StdSource::new(rt.stdin());
-    let mut folder = MapFolder::new(Vec::new(rt.alloc()), Vec::new(rt.alloc()));
+    let mut folder = DirFolder::new(rt, path);
     let mut out = StdSink::new(rt.stdout());
     let mut err = StdSink::new(rt.stderr());
     run_alone(
@@ -45,11 +51,16 @@ fn run(rt: &HostRuntime, words: &[String]) -> Status {
     )
 }
 
-/// Words that aren't UTF-8 are no command; no word at all is none either.
+/// Words that aren't UTF-8 give no order; no word at all does neither.
 fn without_words(rt: &HostRuntime, error: &io::Error) -> Status {
     if error.kind() != ErrorKind::OutOfMemory {
         return run(rt, &[]);
     }
+    without_memory(rt)
+}
+
+/// Says that memory was refused before the call.
+fn without_memory(rt: &HostRuntime) -> Status {
     match rt.eprint(OUT_OF_MEMORY) {
         Ok(()) => Status::OutOfMemory,
         Err(_) => Status::WriteFault,
