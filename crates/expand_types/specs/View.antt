@@ -1,5 +1,5 @@
 -- The data that values of the crate stand for.
-use Rattle.std.specs.Prelude.{ℕ, List, [], ◌∷◌, ◌++◌, Option}
+use Rattle.std.specs.Prelude.{List, Option}
 use Rattle.std.specs.Option.{option_map}
 use Rattle.std.specs.Borrow.{Bor}
 use Rattle.ld_json.specs.declared.location.Step.{Step}
@@ -12,7 +12,7 @@ use Rattle.expand_model.specs.Scope.{in_key, in_item}
 use Rattle.expand_types.specs.declared.scope.Options.{Options}
 use Rattle.expand_types.specs.declared.scope.Scope.{Scope}
 use Rattle.expand_types.specs.declared.scope.MapScope.{MapScope}
-use Rattle.expand_types.specs.declared.trail.Trail.{Trail, From', InKey', InItem'}
+use Rattle.expand_types.specs.declared.trail.Trail.{Trail, From, InKey', InItem'}
 
 -- A text that may be absent.
 abbrev pub word_view : Option (Bor Text) → Option Text
@@ -33,6 +33,6 @@ map_scope_view s = record { context = context_view s.context.now; types = contex
 
 -- The steps of a way.
 abbrev pub trail_view : Trail → List Step
-trail_view (From' p place) = place.now
+trail_view (From place) = place.now
 trail_view (InKey' p before key) = in_key key.now (trail_view before)
 trail_view (InItem' p before number) = in_item number (trail_view before)

@@ -1,7 +1,9 @@
 // What keys expand to.
 ghost use Rattle.std.specs.Prelude.{◌≡◌, ◌++◌, IfOk, false, true, Some};
+ghost use Rattle.std.specs.List.{list_any};
 ghost use Rattle.std.specs.Option.{option_map, option_and_then};
 ghost use Rattle.std.specs.Str.{bytes_eq};
+ghost use Rattle.iri_ref.specs.Parts.{colon};
 ghost use Rattle.ld_tree.specs.View.{view};
 ghost use Rattle.ctx_types.specs.ContextView.{settings_view};
 ghost use Rattle.ctx_types.specs.Expansion.{keywords};
@@ -49,7 +51,17 @@ fn named(iri: Text) -> Name
 fn property_named(iri: Text) -> Name
     ensures { result ≡ entries.property_named iri }
 {
-    if iri.as_str().contains(':') { Name::Property(iri) } else { Name::Dropped }
+    if has_colon(iri.as_str()) {
+        Name::Property(iri)
+    } else {
+        Name::Dropped
+    }
+}
+
+fn has_colon(text: &str) -> bool
+    ensures { result ≡ list_any colon text.now }
+{
+    text.bytes().any(|byte| byte == b':')
 }
 
 /// How the value of an entry is treated, whose key stands for `name` and has this definition, in a map under `property` (JSON-LD 1.1
@@ -76,9 +88,17 @@ fn keyword_task(property: Option<&str>, word: Keyword, value: &Tree) -> Task
     match word {
         Keyword::Graph => Task::Expands,
         Keyword::Included => Task::Expands,
-        Keyword::List => if is_top(property) { Task::Tells } else { Task::Expands },
+        Keyword::List => if is_top(property) {
+            Task::Tells
+        } else {
+            Task::Expands
+        },
         Keyword::Set => Task::Expands,
-        Keyword::Reverse => if is_map(value) { Task::Expands } else { Task::Tells },
+        Keyword::Reverse => if is_map(value) {
+            Task::Expands
+        } else {
+            Task::Tells
+        },
         _ => Task::Tells,
     }
 }
@@ -220,7 +240,11 @@ fn prefix_stands(definition: Option<&TermDef>, word: &str, suffix: &str) -> Opti
 fn form_stands(word: &str, text: &str) -> Option<bool>
     ensures { result ≡ option_map (λ iri. bytes_eq iri word.now) (steps.by_form text.now) }
 {
-    if has_scheme(text) { Some(text == word) } else { None }
+    if has_scheme(text) {
+        Some(text == word)
+    } else {
+        None
+    }
 }
 
 /// Whether `word` is `front` and behind it `rest`.
