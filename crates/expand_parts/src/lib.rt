@@ -4,15 +4,15 @@
 //! A map that is being made is a [`Draft`], into which entries can be put in any order.
 #![tactic(auto)]
 
-mod draft;
 mod entries;
 mod indexes;
 mod items;
-mod public;
+mod keywords;
+mod properties;
 
-pub use draft::Draft;
 pub use entries::{add, begin, finish, tell};
+pub use expand_told::{finish_map, keyword_entry};
 pub use expand_types::PartStop;
+pub use expand_values::{Draft, add_value, expand_value, join, scalar_value};
 pub use indexes::add_index;
-pub use items::{has_lists, join, splice, whole_items};
-pub use public::{add_value, expand_value, finish_map, keyword_entry, scalar_value};
+pub use items::{has_lists, splice, whole_items};
