@@ -1,6 +1,7 @@
 // Why expansion gives nothing.
 ghost use Rattle.std.specs.Prelude.{◌≡◌};
 
+use crate::ranges::Refusal;
 use case_tables::Code;
 use ld_json::Place;
 use std::alloc::AllocError;
@@ -26,5 +27,16 @@ impl From<AllocError> for ExpandStop {
 
     fn from(_error: AllocError) -> ExpandStop {
         ExpandStop::OutOfMemory
+    }
+}
+
+impl From<Refusal> for ExpandStop {
+    ghost use Rattle.tree_expand.specs.declared.stop.ExpandStop.TheVariants.{Refused};
+
+    ghost from_gives = { λ r e. e ≡ Refused r.code r.place };
+
+    fn from(refusal: Refusal) -> ExpandStop {
+        let Refusal { code, place } = refusal;
+        ExpandStop::Refused { code, place }
     }
 }
