@@ -138,7 +138,7 @@ with_reverse i ts q has all may map_is =
     record {
       ascending = ascending-put i (array (trees_of us)) q map_is.ascending;
       each = all-put PropertyEntry i (array (trees_of us)) q
-      (a_reversed i (array (trees_of us)) us has refl (are_items us (all_append IsItem (values_at i q) ts old.0 all)) (of_all is_reversible us (all_append (λ t. is_reversible t ≡ true) (values_at i q) ts old.1 may))) map_is.each;
+          (a_reversed i (array (trees_of us)) us has refl (are_items us (all_append IsItem (values_at i q) ts old.0 all)) (of_all is_reversible us (all_append (λ t. is_reversible t ≡ true) (values_at i q) ts old.1 may))) map_is.each;
     }
   where
     there : (o : Option Tree) → member_at i q ≡ o → AllItems (option_map_or values_of o []) × AllReversible (option_map_or values_of o [])
@@ -379,9 +379,10 @@ entry_included _ _ (a_text k t key is_a_text) same = clash has_text k (codes "@i
 entry_included _ _ (the_types k t here are) same = clash (λ k. bytes_eq k (codes "@included")) k (codes "@type") here refl same
 entry_included _ _ (the_reverse k t r here is sorted looks) same = clash (λ k. bytes_eq k (codes "@included")) k (codes "@reverse") here refl same
 entry_included _ _ (the_items k t ts key is are) same = clash has_items k (codes "@included") same refl key
-entry_included _ _ (the_included k t ts here is are nodes) same =
-    (subst (λ t. AllItems (values_of t)) (sym is) (subst AllItems (sym (tree_list-trees_of ts)) (items_of ts are)),
-    subst (λ t. AllByRecursion IsNodeObject (values_of t)) (sym is) (subst (AllByRecursion IsNodeObject) (sym (tree_list-trees_of ts)) nodes))
+entry_included _ _ (the_included k t ts here is are nodes) same = (
+  subst (λ t. AllItems (values_of t)) (sym is) (subst AllItems (sym (tree_list-trees_of ts)) (items_of ts are)),
+  subst (λ t. AllByRecursion IsNodeObject (values_of t)) (sym is) (subst (AllByRecursion IsNodeObject) (sym (tree_list-trees_of ts)) nodes),
+)
 
 draft_included : (m : Text × Tree) → IsDraft m → bytes_eq m.0 (codes "@included") ≡ true → AllItems (values_of m.1) × AllByRecursion IsNodeObject (values_of m.1)
 draft_included _ (an_entry m entry) same = entry_included m.0 m.1 entry same

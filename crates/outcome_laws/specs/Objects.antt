@@ -93,10 +93,10 @@ mutual
     an_indexed : (t : Tree) (r : Pairs) (k : Text) (u : Tree) → t ≡ object (members_of (put k u r)) → IsObject r → IsIndexEntry r k u → IsItem t
 
   -- What an index adds to an object with these entries (JSON-LD 1.1 API, section 5.1.2, step 13.8.3.7). It is here that what comes
-  -- out may be none of the three kinds, as the standard has it: `@id` and `@type` are added to value objects and list objects, too;
-  -- and so, but for value objects, is an index that is the value of a property. Nothing binds the key of that one: the term
-  -- was a property where the container was defined, but it may be redefined as another name for a keyword, or for a text without
-  -- a colon, where the container is used.
+  -- out may be none of the three kinds, as the standard has it. `@id` and `@type` are added to value objects and list objects, too;
+  -- and so, but for value objects, is an index that is the value of a property. Nothing binds the key of that one: it expanded to an
+  -- IRI where the container was defined, but where the container is used it may be another name for a keyword, or, without the
+  -- vocabulary of then, a text that has no colon.
   pub data IsIndexEntry : Pairs → Text → Tree → Type 0 where
     by_index : (r : Pairs) (k : Text) (u : Tree) → bytes_eq k (codes "@index") ≡ true → has (codes "@index") r ≡ false → is_text u ≡ true → IsIndexEntry r k u
     by_id : (r : Pairs) (k : Text) (u : Tree) → bytes_eq k (codes "@id") ≡ true → has (codes "@id") r ≡ false → is_text u ≡ true → IsIndexEntry r k u
