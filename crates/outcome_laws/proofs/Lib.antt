@@ -13,3 +13,5 @@ pub mod ObjectEntries
 pub mod ObjectFinish
 pub mod ObjectIndexes
 pub mod ObjectNodes
+pub mod Places
+pub mod Turns

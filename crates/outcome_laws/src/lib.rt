@@ -4,7 +4,7 @@
 //! words of `specs/Statements.antt`.
 #![tactic(auto)]
 
-ghost use Rattle.outcome_laws.specs.Laws.{APlainDocumentExpandsToItself, OnlyNodeObjectsStandAtTheTop, OutcomeIsMadeOfObjects};
+ghost use Rattle.outcome_laws.specs.Laws.{APlainDocumentExpandsToItself, ItemsExpandInTurn, OnlyNodeObjectsStandAtTheTop, OutcomeIsMadeOfObjects};
 
 /// What a document expands to has node objects alone as its items: no null, scalar or array, and no map that is a value
 /// object, a list object or a set object (JSON-LD 1.1 API, section 5.1.2, steps 4.1, 13.4.5, 17.2 and 19; section 9.1.2, expand).
@@ -43,4 +43,12 @@ pub fn a_plain_document_expands_to_itself()
 /// with what stood at that key. No value object gets such an index.
 pub fn outcome_is_made_of_objects()
     ensures { OutcomeIsMadeOfObjects }
+{}
+
+/// The items of a document are expanded one by one, and none has a say in what another one comes to (JSON-LD 1.1 API, section
+/// 5.1.2, step 5). A document that is an array may be cut anywhere: the outcome of the first part comes before that of the second;
+/// if the first part is refused, so is the whole, with its error at its place; and else, if the second part is, with that error, at
+/// its place in the whole.
+pub fn items_expand_in_turn()
+    ensures { ItemsExpandInTurn }
 {}
