@@ -15,3 +15,4 @@ pub mod ObjectIndexes
 pub mod ObjectNodes
 pub mod Places
 pub mod Turns
+pub mod PlainStatements

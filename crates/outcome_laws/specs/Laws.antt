@@ -3,6 +3,7 @@ use Rattle.std.specs.Prelude.{◌≡◌, List, ◌++◌, length, true, Ok, filte
 use Rattle.std.specs.List.{AllByRecursion}
 use Rattle.ld_model.specs.Tree.{Tree, array, trees_of}
 use Rattle.ld_model.specs.Plain.{are_plain_items}
+use Rattle.flatten_laws.specs.Laws.{flattened}
 use Rattle.expand_model.specs.Scope.{Options}
 use Rattle.expand_model.specs.Rules.{◌>>=◌}
 use Rattle.expand_model.specs.Expand.{document}
@@ -24,3 +25,7 @@ OutcomeIsMadeOfObjects = (o : Options) (t : Tree) (ts : List Tree) → document 
 -- An array expands item by item: first some of them, and then the others, whose errors stand so many items later.
 abbrev pub ItemsExpandInTurn : Type 0
 ItemsExpandInTurn = (o : Options) (ts us : List Tree) → document o (array (trees_of (ts ++ us))) ≡ (document o (array (trees_of ts)) >>= (λ xs. items_later (length ts) (document o (array (trees_of us))) >>= (λ ys. Ok (xs ++ ys))))
+
+-- What a plain document expands to flattens to what the document itself flattens to.
+abbrev pub PlainDocumentsFlattenAlike : Type 0
+PlainDocumentsFlattenAlike = (o : Options) (ts us : List Tree) → are_plain_items ts ≡ true → AllByRecursion HasKeysInOrder ts → document o (array (trees_of ts)) ≡ Ok us → flattened us ≡ flattened ts

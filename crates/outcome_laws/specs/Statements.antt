@@ -5,7 +5,7 @@ use Rattle.ld_json.specs.declared.location.Step.TheVariants.{Item}
 use Rattle.ld_model.specs.Tree.{Tree, Pairs, AreAscending}
 use Rattle.expand_model.specs.Scope.{Fault, is_map, has, members_in}
 
--- A node object: a map that has none of `@value`, `@list` and `@set` (JSON-LD 1.1, section 3.3).
+-- A node object: a map that has none of `@value`, `@list` and `@set` (JSON-LD 1.1, section 9.2).
 pub record IsNodeObject (t : Tree) : Type 0 where
   pub map : is_map t ≡ true
   pub no_value : has (codes "@value") (members_in t) ≡ false

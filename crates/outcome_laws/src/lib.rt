@@ -4,7 +4,7 @@
 //! words of `specs/Statements.antt`.
 #![tactic(auto)]
 
-ghost use Rattle.outcome_laws.specs.Laws.{APlainDocumentExpandsToItself, ItemsExpandInTurn, OnlyNodeObjectsStandAtTheTop, OutcomeIsMadeOfObjects};
+ghost use Rattle.outcome_laws.specs.Laws.{APlainDocumentExpandsToItself, ItemsExpandInTurn, OnlyNodeObjectsStandAtTheTop, OutcomeIsMadeOfObjects, PlainDocumentsFlattenAlike};
 
 /// What a document expands to has node objects alone as its items: no null, scalar or array, and no map that is a value
 /// object, a list object or a set object (JSON-LD 1.1 API, section 5.1.2, steps 4.1, 13.4.5, 17.2 and 19; section 9.1.2, expand).
@@ -51,4 +51,11 @@ pub fn outcome_is_made_of_objects()
 /// its place in the whole.
 pub fn items_expand_in_turn()
     ensures { ItemsExpandInTurn }
+{}
+
+/// Flattening with expansion before it gives for a plain document what flattening alone gives (JSON-LD 1.1 API, section 9.1.3,
+/// flatten, which expands first). So what is known of `flatten` on plain documents, as `flatten_laws` states it, holds of what
+/// they expand to. As above, the items have their keys in ascending order, each once.
+pub fn plain_documents_flatten_alike()
+    ensures { PlainDocumentsFlattenAlike }
 {}
