@@ -1,3 +1,4 @@
+mod Examples
 pub mod Steps
 pub mod Names
 pub mod TopEntries
@@ -12,3 +13,6 @@ pub mod ObjectEntries
 pub mod ObjectFinish
 pub mod ObjectIndexes
 pub mod ObjectNodes
+pub mod Places
+pub mod Turns
+pub mod PlainStatements

@@ -3,7 +3,7 @@ use Rattle.std.proofs.Common.{◌≡◌, List, [], ◌∷◌, ◌++◌, Bool, tr
 use Rattle.std.specs.Option.{option_map_or}
 use Rattle.std.specs.List.{AllByRecursion, list_all, list_any}
 use Rattle.std.specs.Str.{bytes_eq}
-use Rattle.ld_model.specs.Tree.{Tree, null, truth, whole, one_one, text, array, object, Pairs, trees_of, tree_list, tree_list-trees_of, members_of, member_list-members_of, member_at, put, AreAscending}
+use Rattle.ld_model.specs.Tree.{Tree, null, truth, whole, one_one, text, array, object, Pairs, trees_of, tree_list, tree_list-trees_of, members_of, member_list-members_of, member_at, put, AreAscending, member_list}
 use Rattle.ld_model.proofs.Puts.{all-put, ascending-put, ascending_nil}
 use Rattle.case_tables.specs.Keyword.{keyword_name}
 use Rattle.case_tables.specs.declared.code.Code.TheVariants as code
@@ -18,8 +18,10 @@ use Rattle.expand_model.specs.Scope.{container_of, as_items, values_of, values_a
 use Rattle.expand_model.specs.Values.{is_kind, add_all}
 use Rattle.expand_model.specs.Keywords.{keyword_begun, may_be_told, keyword_entry, id_told, type_in, type_told, value_told, language_told, direction_told, index_told, type_put, keyword_put, keyword_told, included_added, forward_added, each_reversed, reversed_in, reverse_map_added}
 use Rattle.expand_model.specs.Properties.{json_literal, language_map, language_value, value_unexpanded, listed, graphed, is_irreversible, reverses_of, reverse_put, reverse_added, is_reverse, value_added, property_added, property_told}
-use Rattle.outcome_laws.specs.Objects.{has_text, has_items, are_types, IsEntry, a_text, the_types, the_reverse, the_items, IsProperty, a_property, IsItem}
-use Rattle.outcome_laws.proofs.Steps.{never, after, after_any, if_cond, all_append}
+use Rattle.outcome_laws.specs.Objects.{has_text, has_items, are_types, IsEntry, a_text, the_types, the_reverse, the_included, the_items, IsReversed, a_reversed, is_reversible, IsItem}
+use Rattle.outcome_laws.proofs.Steps.{never, after, after_any, after_unless, if_cond, all_append, all_map}
+use Rattle.outcome_laws.specs.Statements.{IsNodeObject}
+use Rattle.outcome_laws.proofs.PlainKeys.{all_off}
 use Rattle.outcome_laws.proofs.Names.{HasColon, held}
 use Rattle.outcome_laws.proofs.Lookups.{clash, none_passes, all_of, of_all, each_entry, all_filtered}
 use Rattle.outcome_laws.proofs.ObjectValues.{AreResults, AllItems, item_of, items_from, are_items, items_of, json_result, graph_result, list_result, map_results, IsOutcome}
@@ -52,12 +54,13 @@ forward_draft p k t forward draft = record { draft = draft; key = λ under other
 
 -- the items that stand at a key
 property_items : (k : Text) → HasColon k → has_items k ≡ true
-property_items k has = ap (λ b. b || among k (codes "@graph" ∷ codes "@included" ∷ codes "@list" ∷ [])) has
+property_items k has = ap (λ b. b || among k (codes "@graph" ∷ codes "@list" ∷ [])) has
 
 entry_values : (k : Text) (t : Tree) → IsEntry k t → has_items k ≡ true → AllItems (values_of t)
 entry_values _ _ (a_text k t key is_a_text) has = never (has_items k) (none_passes has_items k (codes "@direction" ∷ codes "@id" ∷ codes "@index" ∷ codes "@language" ∷ []) refl key) has
 entry_values _ _ (the_types k t same are) has = clash has_items k (codes "@type") same refl has
 entry_values _ _ (the_reverse k t r same is sorted looks) has = clash has_items k (codes "@reverse") same refl has
+entry_values _ _ (the_included k t ts same is are nodes) has = clash has_items k (codes "@included") same refl has
 entry_values _ _ (the_items k t ts key is are) has = subst (λ t. AllItems (values_of t)) (sym is) (subst AllItems (sym (tree_list-trees_of ts)) (items_of ts are))
 
 pub draft_values : (m : Text × Tree) → IsDraft m → has_items m.0 ≡ true → AllItems (values_of m.1)
@@ -85,7 +88,7 @@ property_draft p i ts r has all d = with_items p i ts r (λ entry. record { draf
 
 -- the map of reversed properties
 abbrev PropertyEntry : Text × Tree → Type 0
-PropertyEntry m = IsProperty m.0 m.1
+PropertyEntry m = IsReversed m.0 m.1
 
 pub record IsReverseMap (q : Pairs) : Type 0 where
   pub ascending : AreAscending q
@@ -94,6 +97,7 @@ pub record IsReverseMap (q : Pairs) : Type 0 where
 entry_reverse : (k : Text) (t : Tree) → IsEntry k t → bytes_eq k (codes "@reverse") ≡ true → IsReverseMap (members_in t)
 entry_reverse _ _ (a_text k t key is_a_text) same = never (bytes_eq k (codes "@reverse")) (none_passes (λ k. bytes_eq k (codes "@reverse")) k (codes "@direction" ∷ codes "@id" ∷ codes "@index" ∷ codes "@language" ∷ []) refl key) same
 entry_reverse _ _ (the_types k t type are) same = clash (λ k. bytes_eq k (codes "@reverse")) k (codes "@type") type refl same
+entry_reverse _ _ (the_included k t ts here is are nodes) same = clash (λ k. bytes_eq k (codes "@reverse")) k (codes "@included") here refl same
 entry_reverse _ _ (the_items k t ts key is are) same = clash has_items k (codes "@reverse") same refl key
 entry_reverse _ _ (the_reverse k t r here is sorted looks) same =
     subst (λ t. IsReverseMap (members_in t)) (sym is) (subst IsReverseMap (sym (member_list-members_of r)) (record { ascending = sorted; each = each_entry PropertyEntry r sorted looks }))
@@ -114,38 +118,64 @@ reverses_there p r d = by (member_at (codes "@reverse") r) refl
     by None at = no_reverses
     by (Some t) at = draft_reverse (codes "@reverse", t) (drafted_at p (codes "@reverse") t r d at) refl
 
-property_values : (q : Text) (u : Tree) → IsProperty q u → AllItems (values_of u)
-property_values _ _ (a_property q u ts has is are) = subst (λ u. AllItems (values_of u)) (sym is) (subst AllItems (sym (tree_list-trees_of ts)) (items_of ts are))
+property_values : (q : Text) (u : Tree) → IsReversed q u → AllItems (values_of u)
+property_values _ _ (a_reversed q u ts has is are may) = subst (λ u. AllItems (values_of u)) (sym is) (subst AllItems (sym (tree_list-trees_of ts)) (items_of ts are))
 
-property_colon : (q : Text) (u : Tree) → IsProperty q u → HasColon q
-property_colon _ _ (a_property q u ts has is are) = has
+property_colon : (q : Text) (u : Tree) → IsReversed q u → HasColon q
+property_colon _ _ (a_reversed q u ts has is are may) = has
 
-with_reverse : (i : Text) (ts : List Tree) (q : Pairs) → HasColon i → AllItems ts → IsReverseMap q → IsReverseMap (add_all i ts q)
+abbrev AllReversible : List Tree → Type 0
+AllReversible ts = AllByRecursion (λ t. is_reversible t ≡ true) ts
+
+property_reversible : (q : Text) (u : Tree) → IsReversed q u → AllReversible (values_of u)
+property_reversible _ _ (a_reversed q u ts has is are may) = subst (λ u. AllReversible (values_of u)) (sym is) (subst AllReversible (sym (tree_list-trees_of ts)) (all_of is_reversible ts may))
+
+with_reverse : (i : Text) (ts : List Tree) (q : Pairs) → HasColon i → AllItems ts → AllReversible ts → IsReverseMap q → IsReverseMap (add_all i ts q)
 unfolding add_all
-with_reverse i ts q has all map_is =
-    let u : Tree = array (trees_of (values_at i q ++ ts)) in
+with_reverse i ts q has all may map_is =
+    let us : List Tree = values_at i q ++ ts in
+    let old = there (member_at i q) refl in
     record {
-      ascending = ascending-put i u q map_is.ascending;
-      each = all-put PropertyEntry i u q (a_property i u (values_at i q ++ ts) has refl (are_items (values_at i q ++ ts) (all_append IsItem (values_at i q) ts (by (member_at i q) refl) all))) map_is.each;
+      ascending = ascending-put i (array (trees_of us)) q map_is.ascending;
+      each = all-put PropertyEntry i (array (trees_of us)) q
+          (a_reversed i (array (trees_of us)) us has refl (are_items us (all_append IsItem (values_at i q) ts old.0 all)) (of_all is_reversible us (all_append (λ t. is_reversible t ≡ true) (values_at i q) ts old.1 may))) map_is.each;
     }
   where
-    by : (o : Option Tree) → member_at i q ≡ o → AllItems (option_map_or values_of o [])
-    by None at = tt
-    by (Some t) at = property_values i t (held PropertyEntry i t q map_is.each at)
+    there : (o : Option Tree) → member_at i q ≡ o → AllItems (option_map_or values_of o []) × AllReversible (option_map_or values_of o [])
+    there None at = (tt, tt)
+    there (Some t) at = let is = held PropertyEntry i t q map_is.each at in (property_values i t is, property_reversible i t is)
 
 reverse_entry : (q : Pairs) → IsReverseMap q → IsEntry (codes "@reverse") (object (members_of q))
 reverse_entry q is = the_reverse (codes "@reverse") (object (members_of q)) q refl refl is.ascending (λ k u at. held PropertyEntry k u q is.each at)
 
-reverse_put_draft : (p : Option Text) (i : Text) (ts : List Tree) (r : Pairs) → HasColon i → AllItems ts → Draft p r → Draft p (reverse_put i ts r)
-reverse_put_draft p i [] r has all d = d
-reverse_put_draft p i (t ∷ ts) r has all d =
+reverse_put_draft : (p : Option Text) (i : Text) (ts : List Tree) (r : Pairs) → HasColon i → AllItems ts → AllReversible ts → Draft p r → Draft p (reverse_put i ts r)
+reverse_put_draft p i [] r has all may d = d
+reverse_put_draft p i (t ∷ ts) r has all may d =
     let q : Pairs = add_all i (t ∷ ts) (reverses_of (member_at (codes "@reverse") r)) in
     put_draft p (codes "@reverse") (object (members_of q)) r
-    (record { draft = an_entry (codes "@reverse", object (members_of q)) (reverse_entry q (with_reverse i (t ∷ ts) _ has all (reverses_there p r d))); key = λ under other. absurd (cc) }) d
+    (record { draft = an_entry (codes "@reverse", object (members_of q)) (reverse_entry q (with_reverse i (t ∷ ts) _ has all may (reverses_there p r d))); key = λ under other. absurd (cc) }) d
+
+reversible : (t : Tree) → is_irreversible t ≡ false → is_reversible t ≡ true
+reversible (object ms) is = ap not is
+reversible null is = refl
+reversible (truth b) is = refl
+reversible (whole n) is = refl
+reversible one_one is = refl
+reversible (text s) is = refl
+reversible (array ts) is = refl
+
+all_reversible : (ts : List Tree) → not (list_any is_irreversible ts) ≡ true → AllReversible ts
+all_reversible [] passes = tt
+all_reversible (t ∷ ts) passes = by (is_irreversible t) refl passes (λ later. all_reversible ts later)
+  where
+    by : (b : Bool) → is_irreversible t ≡ b → not (b || list_any is_irreversible ts) ≡ true → (not (list_any is_irreversible ts) ≡ true → AllReversible ts) → AllReversible (t ∷ ts)
+    by true is passes rest = absurd (cc)
+    by false is passes rest = (reversible t is, rest passes)
 
 reverse_added_draft : (p : Option Text) (i : Text) (ts : List Tree) (r : Pairs) → HasColon i → AllItems ts → Draft p r → IfOk (reverse_added i ts r) (Draft p)
 unfolding reverse_added
-reverse_added_draft p i ts r has all d = after_any (Draft p) (unless (not (list_any is_irreversible ts)) code.InvalidReversePropertyValue) _ (λ _. reverse_put_draft p i ts r has all d)
+reverse_added_draft p i ts r has all d =
+    after_unless (Draft p) (not (list_any is_irreversible ts)) code.InvalidReversePropertyValue _ (λ passes. reverse_put_draft p i ts r has all (all_reversible ts passes) d)
 
 -- the value of a property, made a list or graphs
 record IsSomething (v : Tree) : Type 0 where
@@ -268,6 +298,7 @@ entry_types : (k : Text) (t : Tree) → IsEntry k t → bytes_eq k (codes "@type
 entry_types _ _ (a_text k t key is_a_text) same = never (bytes_eq k (codes "@type")) (none_passes (λ k. bytes_eq k (codes "@type")) k (codes "@direction" ∷ codes "@id" ∷ codes "@index" ∷ codes "@language" ∷ []) refl key) same
 entry_types _ _ (the_types k t here are) same = are_texts t are
 entry_types _ _ (the_reverse k t r here is sorted looks) same = clash (λ k. bytes_eq k (codes "@type")) k (codes "@reverse") here refl same
+entry_types _ _ (the_included k t ts here is are nodes) same = clash (λ k. bytes_eq k (codes "@type")) k (codes "@included") here refl same
 entry_types _ _ (the_items k t ts key is are) same = clash has_items k (codes "@type") same refl key
 
 text_alone : (t : Tree) → is_text t ≡ true → AreTexts t
@@ -337,20 +368,56 @@ items_put_draft p k v r key forward out d =
     put_draft p k (array (trees_of (as_items v))) r
     (forward_draft p k (array (trees_of (as_items v))) forward (an_entry (k, array (trees_of (as_items v))) (the_items k _ (as_items v) key refl (are_items (as_items v) (items_from (as_items v) out))))) d
 
+node_is : (t : Tree) → is_node_object t ≡ true → IsNodeObject t
+node_is (object ms) is =
+    let off = all_off (has (codes "@value") (member_list ms)) (has (codes "@list") (member_list ms)) (has (codes "@set") (member_list ms)) is in
+    record { map = refl; no_value = off.0; no_list = off.1; no_set = off.2 }
+node_is _ is = absurd (cc)
+
+entry_included : (k : Text) (t : Tree) → IsEntry k t → bytes_eq k (codes "@included") ≡ true → AllItems (values_of t) × AllByRecursion IsNodeObject (values_of t)
+entry_included _ _ (a_text k t key is_a_text) same = clash has_text k (codes "@included") same refl key
+entry_included _ _ (the_types k t here are) same = clash (λ k. bytes_eq k (codes "@included")) k (codes "@type") here refl same
+entry_included _ _ (the_reverse k t r here is sorted looks) same = clash (λ k. bytes_eq k (codes "@included")) k (codes "@reverse") here refl same
+entry_included _ _ (the_items k t ts key is are) same = clash has_items k (codes "@included") same refl key
+entry_included _ _ (the_included k t ts here is are nodes) same = (
+  subst (λ t. AllItems (values_of t)) (sym is) (subst AllItems (sym (tree_list-trees_of ts)) (items_of ts are)),
+  subst (λ t. AllByRecursion IsNodeObject (values_of t)) (sym is) (subst (AllByRecursion IsNodeObject) (sym (tree_list-trees_of ts)) nodes),
+)
+
+draft_included : (m : Text × Tree) → IsDraft m → bytes_eq m.0 (codes "@included") ≡ true → AllItems (values_of m.1) × AllByRecursion IsNodeObject (values_of m.1)
+draft_included _ (an_entry m entry) same = entry_included m.0 m.1 entry same
+draft_included _ (a_value m here) same = clash (λ k. bytes_eq k (codes "@included")) m.0 (codes "@value") here refl same
+draft_included _ (a_set m here out) same = clash (λ k. bytes_eq k (codes "@included")) m.0 (codes "@set") here refl same
+draft_included _ (a_type m here is_a_text) same = clash (λ k. bytes_eq k (codes "@included")) m.0 (codes "@type") here refl same
+
+nodes_put : (p : Option Text) (ts : List Tree) (r : Pairs) → is_under_reverse p ≡ false → AllItems ts → AllByRecursion IsNodeObject ts → Draft p r → Draft p (add_all (codes "@included") ts r)
+unfolding add_all
+nodes_put p ts r forward all nodes d =
+    let us : List Tree = values_at (codes "@included") r ++ ts in
+    let old = there (member_at (codes "@included") r) refl in
+    put_draft p (codes "@included") (array (trees_of us)) r
+    (forward_draft p (codes "@included") (array (trees_of us)) forward
+    (an_entry (codes "@included", array (trees_of us))
+    (the_included (codes "@included") (array (trees_of us)) us refl refl (are_items us (all_append IsItem (values_at (codes "@included") r) ts old.0 all)) (all_append IsNodeObject (values_at (codes "@included") r) ts old.1 nodes)))) d
+  where
+    there : (o : Option Tree) → member_at (codes "@included") r ≡ o → AllItems (option_map_or values_of o []) × AllByRecursion IsNodeObject (option_map_or values_of o [])
+    there None at = (tt, tt)
+    there (Some t) at = draft_included (codes "@included", t) (drafted_at p (codes "@included") t r d at) refl
+
 pub included_draft : (p : Option Text) (v : Tree) (r : Pairs) → is_under_reverse p ≡ false → IsOutcome v → Draft p r → IfOk (included_added v r) (Draft p)
 included_draft p v r forward out d = by (is_null v) refl
   where
     by : (b : Bool) → is_null v ≡ b → IfOk (unless (not b && list_all is_node_object (values_of v)) code.InvalidIncludedValue >>= (λ _. Ok (add_all (codes "@included") (values_of v) r))) (Draft p)
     by true is = tt
     by false some =
-        after_any (Draft p) (unless (list_all is_node_object (values_of v)) code.InvalidIncludedValue) _
-        (λ _. with_items p (codes "@included") (values_of v) r (λ entry. forward_draft p (codes "@included") _ forward (an_entry (codes "@included", _) entry)) refl (something_values v some (items_from (as_items v) out)) d)
+        after_unless (Draft p) (list_all is_node_object (values_of v)) code.InvalidIncludedValue _
+        (λ passes. nodes_put p (values_of v) r forward (something_values v some (items_from (as_items v) out)) (all_map (λ t. is_node_object t ≡ true) IsNodeObject (values_of v) node_is (all_of is_node_object (values_of v) passes)) d)
 
 pub set_draft : (p : Option Text) (v : Tree) (r : Pairs) → is_under_reverse p ≡ false → IsOutcome v → Draft p r → Draft p (put (codes "@set") v r)
 set_draft p v r forward out d = put_draft p (codes "@set") v r (forward_draft p (codes "@set") v forward (a_set (codes "@set", v) refl out)) d
 
 -- the value of `@reverse`
-pub record IsReversed (m : Text × Tree) : Type 0 where
+pub record IsBackward (m : Text × Tree) : Type 0 where
   pub draft : IsDraft m
   pub key : bytes_eq m.0 (codes "@reverse") ≡ false → HasColon m.0
 
@@ -359,23 +426,23 @@ forward_added_draft p [] r all d = d
 forward_added_draft p (m ∷ ms) r all d =
     forward_added_draft p ms (add_all m.0 (values_of m.1) r) all.1 (property_draft p m.0 (values_of m.1) r (property_colon m.0 m.1 all.0) (property_values m.0 m.1 all.0) d)
 
-reversed_there : (ms : Pairs) (o : Option Tree) → AllByRecursion IsReversed ms → member_at (codes "@reverse") ms ≡ o → AllByRecursion PropertyEntry (reverses_of o)
+reversed_there : (ms : Pairs) (o : Option Tree) → AllByRecursion IsBackward ms → member_at (codes "@reverse") ms ≡ o → AllByRecursion PropertyEntry (reverses_of o)
 reversed_there ms None all at = tt
-reversed_there ms (Some t) all at = (draft_reverse (codes "@reverse", t) (held IsReversed (codes "@reverse") t ms all at).draft refl).each
+reversed_there ms (Some t) all at = (draft_reverse (codes "@reverse", t) (held IsBackward (codes "@reverse") t ms all at).draft refl).each
 
-one_reversed : (p : Option Text) (m : Text × Tree) (r : Pairs) → IsReversed m → Draft p r → IfOk (if bytes_eq m.0 (codes "@reverse") then Ok r else reverse_added m.0 (values_of m.1) r) (Draft p)
+one_reversed : (p : Option Text) (m : Text × Tree) (r : Pairs) → IsBackward m → Draft p r → IfOk (if bytes_eq m.0 (codes "@reverse") then Ok r else reverse_added m.0 (values_of m.1) r) (Draft p)
 one_reversed p m r is d = by (bytes_eq m.0 (codes "@reverse")) refl
   where
     by : (b : Bool) → bytes_eq m.0 (codes "@reverse") ≡ b → IfOk (if b then Ok r else reverse_added m.0 (values_of m.1) r) (Draft p)
     by true same = d
     by false other = reverse_added_draft p m.0 (values_of m.1) r (is.key other) (draft_values m is.draft (property_items m.0 (is.key other))) d
 
-each_reversed_draft : (p : Option Text) (ms r : Pairs) → AllByRecursion IsReversed ms → Draft p r → IfOk (each_reversed ms r) (Draft p)
+each_reversed_draft : (p : Option Text) (ms r : Pairs) → AllByRecursion IsBackward ms → Draft p r → IfOk (each_reversed ms r) (Draft p)
 each_reversed_draft p [] r all d = d
 each_reversed_draft p (m ∷ ms) r all d =
     after (Draft p) (Draft p) (if bytes_eq m.0 (codes "@reverse") then Ok r else reverse_added m.0 (values_of m.1) r) _ (one_reversed p m r all.0 d) (λ r₁ d₁. each_reversed_draft p ms r₁ all.1 d₁)
 
-pub reverse_map_draft : (p : Option Text) (v : Tree) (r : Pairs) → AllByRecursion IsReversed (members_in v) → Draft p r → IfOk (reverse_map_added v r) (Draft p)
+pub reverse_map_draft : (p : Option Text) (v : Tree) (r : Pairs) → AllByRecursion IsBackward (members_in v) → Draft p r → IfOk (reverse_map_added v r) (Draft p)
 unfolding reverse_map_added
 reverse_map_draft p v r all d =
     each_reversed_draft p (members_in v) _ all

@@ -12,7 +12,7 @@ use Rattle.ctx_model.specs.Outcome.{unless}
 use Rattle.expand_model.specs.Scope.{has, is_null, is_text}
 use Rattle.expand_model.specs.Finish.{are_value_entries, is_json_word, is_datatype, literal_tested, literal_finished, value_finished, types_array, is_set_key, is_set_or_list, are_set_entries, set_taken, node_finished, by_value, unless_dropped, finish_map}
 use Rattle.expand_model.specs.Rules.{or_null, finished}
-use Rattle.outcome_laws.specs.Objects.{is_value_key, is_list_key, has_text, has_items, are_types, IsObject, value_object, list_object, node_object, IsEntry, a_text, the_types, the_reverse, the_items}
+use Rattle.outcome_laws.specs.Objects.{is_value_key, is_list_key, has_text, has_items, are_types, IsObject, value_object, list_object, node_object, IsEntry, a_text, the_types, the_reverse, the_included, the_items}
 use Rattle.outcome_laws.proofs.Steps.{never, after, after_any, after_unless}
 use Rattle.outcome_laws.proofs.Names.{held}
 use Rattle.outcome_laws.proofs.Lookups.{clash, none_passes, all_of, of_all}
@@ -35,6 +35,7 @@ entry_text : (k : Text) (t : Tree) → IsEntry k t → is_value_key k ≡ true �
 entry_text _ _ (a_text k t key is_a_text) value type = is_a_text
 entry_text _ _ (the_types k t same are) value type = type same
 entry_text _ _ (the_reverse k t r same is sorted looks) value type = clash is_value_key k (codes "@reverse") same refl value
+entry_text _ _ (the_included k t ts same is are nodes) value type = clash is_value_key k (codes "@included") same refl value
 entry_text _ _ (the_items k t ts key is are) value type =
     never (has_items k) (none_passes has_items k (codes "@direction" ∷ codes "@index" ∷ codes "@language" ∷ codes "@type" ∷ codes "@value" ∷ []) refl value) key
 
@@ -53,6 +54,7 @@ entry_set : {A : Type 0} (k : Text) (t : Tree) → IsEntry k t → bytes_eq k (c
 entry_set _ _ (a_text k t key is_a_text) same = clash has_text k (codes "@set") same refl key
 entry_set _ _ (the_types k t here are) same = clash (λ k. bytes_eq k (codes "@type")) k (codes "@set") same refl here
 entry_set _ _ (the_reverse k t r here is sorted looks) same = clash (λ k. bytes_eq k (codes "@reverse")) k (codes "@set") same refl here
+entry_set _ _ (the_included k t ts here is are nodes) same = clash (λ k. bytes_eq k (codes "@included")) k (codes "@set") same refl here
 entry_set _ _ (the_items k t ts key is are) same = clash has_items k (codes "@set") same refl key
 
 draft_set : (m : Text × Tree) → IsDraft m → bytes_eq m.0 (codes "@set") ≡ true → IsOutcome m.1

@@ -21,7 +21,7 @@ use Rattle.expand_model.specs.Indexes.{has_lists, index_added}
 use Rattle.expand_model.specs.Rules.{At, Inside, item_at, or_null, scalar_in, scalar_under, scalar, scalar_at, lists_at, spliced, entered_at, finished, finished_at, definition_in, value_at, index_at, begun_at, is_nest, nestable, nest_in, nest_item_in, start, whole_items}
 use Rattle.expand_model.specs.Contexts.{entered}
 use Rattle.expand_model.specs.Expand.{taken, entry_named, entry, index_entry, element, items, entries, nests, nested, nest_items, nest_item, indexes, index_entries, document}
-use Rattle.outcome_laws.specs.Objects.{is_value_key, is_list_key, IsObject, value_object, list_object, node_object, IsEntry, a_text, the_types, the_reverse, the_items}
+use Rattle.outcome_laws.specs.Objects.{is_value_key, is_list_key, IsObject, value_object, list_object, node_object, IsEntry, a_text, the_types, the_reverse, the_included, the_items}
 use Rattle.outcome_laws.specs.Laws.{OutcomeIsMadeOfObjects}
 use Rattle.outcome_laws.proofs.Steps.{never, after, after_any, of_any, of_both, of_case, of_value, of_located, if_cond, all_map, all_append}
 use Rattle.outcome_laws.proofs.Names.{HasColon, IsNamed, is_named, held}
@@ -30,14 +30,14 @@ use Rattle.outcome_laws.proofs.TopEntries.{is_under_reverse, begun_forward}
 use Rattle.outcome_laws.proofs.TopFinish.{finished_same}
 use Rattle.outcome_laws.proofs.TopNodes.{SameProperty, scope_property, within_property}
 use Rattle.outcome_laws.proofs.ObjectValues.{IsResult, AreResults, AllItems, items_from, are_items, items_of, expanded_result, IsOutcome}
-use Rattle.outcome_laws.proofs.ObjectEntries.{Drafted, Draft, property_added_draft, property_told_draft, keyword_told_draft, items_put_draft, included_draft, set_draft, IsReversed, reverse_map_draft}
+use Rattle.outcome_laws.proofs.ObjectEntries.{Drafted, Draft, property_added_draft, property_told_draft, keyword_told_draft, items_put_draft, included_draft, set_draft, IsBackward, reverse_map_draft}
 use Rattle.outcome_laws.proofs.ObjectFinish.{finished_object}
 use Rattle.outcome_laws.proofs.ObjectIndexes.{spliced_results, index_added_items}
 
 -- what a value comes to under this property
 record Comes (t : Tree) (p : Option Text) (v : Tree) : Type 0 where
   out : IsOutcome v
-  reverse : is_map t ≡ true → is_under_reverse p ≡ true → AllByRecursion IsReversed (members_in v)
+  reverse : is_map t ≡ true → is_under_reverse p ≡ true → AllByRecursion IsBackward (members_in v)
 
 -- scalars
 result_outcome : (o : Option Tree) → IfSome o IsResult → IsOutcome (or_null o)
@@ -151,16 +151,16 @@ module _ (o : Options) (t : Tree) (expand : At → Result Tree Fault) (values : 
       (index_added_items e.scope.context.current (definition_in k e) (has_lists a.scope) i t v out come.out all)))
 
 -- a map, from what its entries came to
-reversed_entries : (p : Option Text) (r : Pairs) → is_under_reverse p ≡ true → Draft p r → AllByRecursion IsReversed r
-reversed_entries p r under draft = all_map (Drafted p) IsReversed r (λ m is. record { draft = is.draft; key = is.key under }) draft.each
+reversed_entries : (p : Option Text) (r : Pairs) → is_under_reverse p ≡ true → Draft p r → AllByRecursion IsBackward r
+reversed_entries p r under draft = all_map (Drafted p) IsBackward r (λ m is. record { draft = is.draft; key = is.key under }) draft.each
 
 finished_comes : (ms : Members) (a : At) (r : Pairs) → Draft a.scope.property r → IfOk (finished_at a r) (Comes (object ms) a.scope.property)
 finished_comes ms a r draft =
     let p : Option Text = a.scope.property in
     of_located (Comes (object ms) p) a.place (finished r p)
-    (of_both IsOutcome (λ v. is_under_reverse p ≡ true → AllByRecursion IsReversed (members_in v)) (Comes (object ms) p) (finished r p)
+    (of_both IsOutcome (λ v. is_under_reverse p ≡ true → AllByRecursion IsBackward (members_in v)) (Comes (object ms) p) (finished r p)
     (finished_object p r draft)
-    (of_case (is_under_reverse p ≡ true) (λ v. AllByRecursion IsReversed (members_in v)) (finished r p) (λ under. finished_same p IsReversed (λ m is. is.key) r (reversed_entries p r under draft)))
+    (of_case (is_under_reverse p ≡ true) (λ v. AllByRecursion IsBackward (members_in v)) (finished r p) (λ under. finished_same p IsBackward (λ m is. is.key) r (reversed_entries p r under draft)))
     (λ v out reversed. record { out = out; reverse = λ map under. reversed under }))
 
 nothing_drafted : (p : Option Text) → Draft p []
@@ -255,6 +255,7 @@ graph_items : (k : Text) (t : Tree) → bytes_eq k (codes "@graph") ≡ true →
 graph_items _ _ same (a_text k t key is_a_text) = never (bytes_eq k (codes "@graph")) (none_passes (λ k. bytes_eq k (codes "@graph")) k (codes "@direction" ∷ codes "@id" ∷ codes "@index" ∷ codes "@language" ∷ []) refl key) same
 graph_items _ _ same (the_types k t here are) = clash (λ k. bytes_eq k (codes "@graph")) k (codes "@type") here refl same
 graph_items _ _ same (the_reverse k t r here is sorted looks) = clash (λ k. bytes_eq k (codes "@graph")) k (codes "@reverse") here refl same
+graph_items _ _ same (the_included k t ts here is are nodes) = clash (λ k. bytes_eq k (codes "@graph")) k (codes "@included") here refl same
 graph_items _ _ same (the_items k t ts key is are) = subst (λ t. AllItems (as_items t)) (sym is) (subst AllItems (sym (tree_list-trees_of ts)) (items_of ts are))
 
 graph_in : (r : Pairs) (k : Text) (t : Tree) → IsObject r → member_at k r ≡ Some t → bytes_eq k (codes "@graph") ≡ true → AllItems (as_items t)

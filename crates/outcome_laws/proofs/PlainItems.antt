@@ -69,7 +69,7 @@ module _ (o : Options) (place : List Step) where
 not_there : (w : Text) (r : Pairs) → are_plain_members r ≡ true → has_scheme w ≡ false → bytes_eq id_key w ≡ false → member_at w r ≡ None
 not_there w r plain none other = absent w r (not_in_plain w r none other plain)
 
-lone_id : (e : Text × Tree) → is_some (member_at id_key (e ∷ [])) ≡ true → bytes_eq e.0 id_key ≡ true
+pub lone_id : (e : Text × Tree) → is_some (member_at id_key (e ∷ [])) ≡ true → bytes_eq e.0 id_key ≡ true
 lone_id e some = by (bytes_eq id_key e.0) refl
   where
     by : (b : Bool) → bytes_eq id_key e.0 ≡ b → bytes_eq e.0 id_key ≡ true

@@ -125,7 +125,7 @@ key_stays base _ (of_scheme k has) = expands_to_itself base false true k has
 abbrev pub is_other : Text → Bool
 is_other w = not (has_scheme w || bytes_eq (codes "@id") w || bytes_eq (codes "@value") w)
 
-all_off : (a b c : Bool) → not (a || b || c) ≡ true → (a ≡ false) × (b ≡ false) × (c ≡ false)
+pub all_off : (a b c : Bool) → not (a || b || c) ≡ true → (a ≡ false) × (b ≡ false) × (c ≡ false)
 all_off true b c is = absurd (cc)
 all_off false true c is = absurd (cc)
 all_off false false true is = absurd (cc)

@@ -1,12 +1,13 @@
 -- What expansion gives, from the whole down to its entries.
-use Rattle.std.specs.Prelude.{◌≡◌, ◌||◌, Bool, true, false, List, [], ◌∷◌, Some, codes}
-use Rattle.std.specs.List.{list_all, list_any}
+use Rattle.std.specs.Prelude.{◌≡◌, ◌||◌, not, Bool, true, false, List, [], ◌∷◌, Some, codes}
+use Rattle.std.specs.List.{list_all, list_any, AllByRecursion}
 use Rattle.std.specs.Str.{bytes_eq}
 use Rattle.ld_model.specs.Tree.{Tree, text, array, object, Pairs, trees_of, tree_list, members_of, member_at, put, AreAscending}
 use Rattle.iri_ref.specs.Parts.{colon}
 use Rattle.ctx_types.specs.Context.{Text}
 use Rattle.ctx_model.specs.Words.{among}
-use Rattle.expand_model.specs.Scope.{has, is_text, is_null, values_at}
+use Rattle.expand_model.specs.Scope.{has, is_text, is_null, values_at, members_in}
+use Rattle.outcome_laws.specs.Statements.{IsNodeObject}
 
 -- The keys that a value object may have (JSON-LD 1.1, section 9.5).
 abbrev pub is_value_key : Text → Bool
@@ -26,7 +27,11 @@ is_property k = list_any colon k
 
 -- The keys that have an array of items.
 abbrev pub has_items : Text → Bool
-has_items k = is_property k || among k (codes "@graph" ∷ codes "@included" ∷ codes "@list" ∷ [])
+has_items k = is_property k || among k (codes "@graph" ∷ codes "@list" ∷ [])
+
+-- What may be the value of a reversed property: neither a value object nor a list object.
+abbrev pub is_reversible : Tree → Bool
+is_reversible t = not (has (codes "@value") (members_in t) || has (codes "@list") (members_in t))
 
 -- The types of a node: an array of texts.
 abbrev pub are_types : Tree → Bool
@@ -34,7 +39,8 @@ are_types (array ts) = list_all is_text (tree_list ts)
 are_types _ = false
 
 -- The entries of a value object: no other keys than it may have, and a text at each but `@value`. Null is a value in a JSON literal
--- alone.
+-- alone. Nothing else is said of the value: it may be a map or an array where the input type is `@json`, and a type-scoped context
+-- may make it so although the type in the outcome is another.
 pub record IsValue (r : Pairs) : Type 0 where
   pub ascending : AreAscending r
   pub keys : list_all (λ m. is_value_key m.0) r ≡ true
@@ -63,17 +69,18 @@ mutual
     list_object : (r : Pairs) → HasListKeys r → ((k : Text) (t : Tree) → member_at k r ≡ Some t → IsEntry k t) → IsObject r
     node_object : (r : Pairs) → HasNodeKeys r → ((k : Text) (t : Tree) → member_at k r ≡ Some t → IsEntry k t) → IsObject r
 
-  -- An entry of a list object or a node object: a keyword with its text; the types; the map of reversed properties; or a property,
-  -- `@graph`, `@included` or `@list`, each with an array of items.
+  -- An entry of a list object or a node object: a keyword with its text; the types; the map of reversed properties; the included
+  -- node objects; or a property, `@graph` or `@list`, each with an array of items.
   pub data IsEntry : Text → Tree → Type 0 where
     a_text : (k : Text) (t : Tree) → has_text k ≡ true → is_text t ≡ true → IsEntry k t
     the_types : (k : Text) (t : Tree) → bytes_eq k (codes "@type") ≡ true → are_types t ≡ true → IsEntry k t
-    the_reverse : (k : Text) (t : Tree) (r : Pairs) → bytes_eq k (codes "@reverse") ≡ true → t ≡ object (members_of r) → AreAscending r → ((q : Text) (u : Tree) → member_at q r ≡ Some u → IsProperty q u) → IsEntry k t
+    the_reverse : (k : Text) (t : Tree) (r : Pairs) → bytes_eq k (codes "@reverse") ≡ true → t ≡ object (members_of r) → AreAscending r → ((q : Text) (u : Tree) → member_at q r ≡ Some u → IsReversed q u) → IsEntry k t
+    the_included : (k : Text) (t : Tree) (ts : List Tree) → bytes_eq k (codes "@included") ≡ true → t ≡ array (trees_of ts) → AreItems ts → AllByRecursion IsNodeObject ts → IsEntry k t
     the_items : (k : Text) (t : Tree) (ts : List Tree) → has_items k ≡ true → t ≡ array (trees_of ts) → AreItems ts → IsEntry k t
 
-  -- A property with an array of items.
-  pub data IsProperty : Text → Tree → Type 0 where
-    a_property : (q : Text) (u : Tree) (ts : List Tree) → is_property q ≡ true → u ≡ array (trees_of ts) → AreItems ts → IsProperty q u
+  -- A reversed property, with an array of items of which none is a value object or a list object.
+  pub data IsReversed : Text → Tree → Type 0 where
+    a_reversed : (q : Text) (u : Tree) (ts : List Tree) → is_property q ≡ true → u ≡ array (trees_of ts) → AreItems ts → list_all is_reversible ts ≡ true → IsReversed q u
 
   -- The items of an array.
   pub data AreItems : List Tree → Type 0 where
@@ -86,10 +93,10 @@ mutual
     an_indexed : (t : Tree) (r : Pairs) (k : Text) (u : Tree) → t ≡ object (members_of (put k u r)) → IsObject r → IsIndexEntry r k u → IsItem t
 
   -- What an index adds to an object with these entries (JSON-LD 1.1 API, section 5.1.2, step 13.8.3.7). It is here that what comes
-  -- out may be none of the three kinds, as the standard has it: `@id` and `@type` are added to value objects and list objects, too;
-  -- and so, but for value objects, is an index that is the value of a property. Nothing binds the key of that one: the term
-  -- was a property where the container was defined, but it may be redefined as another name for a keyword, or for a text without
-  -- a colon, where the container is used.
+  -- out may be none of the three kinds, as the standard has it. `@id` and `@type` are added to value objects and list objects, too;
+  -- and so, but for value objects, is an index that is the value of a property. Nothing binds the key of that one: it expanded to an
+  -- IRI where the container was defined, but where the container is used it may be another name for a keyword, or, without the
+  -- vocabulary of then, a text that has no colon.
   pub data IsIndexEntry : Pairs → Text → Tree → Type 0 where
     by_index : (r : Pairs) (k : Text) (u : Tree) → bytes_eq k (codes "@index") ≡ true → has (codes "@index") r ≡ false → is_text u ≡ true → IsIndexEntry r k u
     by_id : (r : Pairs) (k : Text) (u : Tree) → bytes_eq k (codes "@id") ≡ true → has (codes "@id") r ≡ false → is_text u ≡ true → IsIndexEntry r k u
