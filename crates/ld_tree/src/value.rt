@@ -142,7 +142,7 @@ impl Trees {
     }
 
     /// The values, as a slice.
-    pub(crate) fn as_slice(&self) -> &[Tree]
+    pub fn as_slice(&self) -> &[Tree]
         ensures { trees_view result.now ≡ self.now }
     {
         self.items.as_slice()
