@@ -1,7 +1,7 @@
 // The parts of expansion that expand nothing, each with the place of its error. A place is made only where there is an error.
-ghost use Rattle.std.specs.Prelude.{◌≡◌, Err, IfOk};
+ghost use Rattle.std.specs.Prelude.{◌≡◌, Err};
 ghost use Rattle.ld_model.specs.Tree.{Pairs};
-ghost use Rattle.ld_tree.specs.View.{trees_view, view};
+ghost use Rattle.ld_tree.specs.View.{view};
 ghost use Rattle.expand_model.specs.Scope.{in_key};
 ghost use Rattle.expand_model.specs.Indexes.{index_under};
 ghost use Rattle.expand_model.specs.Rules as rules;
@@ -20,7 +20,7 @@ use expand_contexts::{Active, Entered, Memo, enter, index_context, scalar_contex
 use expand_parts::{Draft, add, add_index, begin, finish, has_lists, scalar_value, tell};
 use expand_types::{Name, Options, PartStop, Scope, Trail, has_key, is_top, place_of};
 use ld_tree::{Members, Tree, Trees};
-use std::alloc::{AllocError, Global};
+use std::alloc::Global;
 
 /// What stops a part stops expansion, with the place at the end of the way.
 fn located(alloc: Global, trail: &Trail<'_>, stop: PartStop) -> ExpandStop
@@ -223,11 +223,4 @@ pub(crate) fn not_nestable<'x>(alloc: Global, inside: &Inside<'x>, key: &'x str)
         &Trail::InKey(inside.trail, key),
         PartStop::Refused(Code::InvalidNestValue),
     )
-}
-
-/// The values of an array, as a slice.
-pub(crate) fn slice_of(_trees: &Trees) -> Result<&[Tree], AllocError>
-    ensures { IfOk result (λ ts. trees_view ts.now ≡ _trees.now) }
-{
-    Err(AllocError)
 }

@@ -11,8 +11,7 @@ ghost use Rattle.tree_expand.specs.View.{at_view, inside_view};
 
 use crate::at::{At, Inside};
 use crate::parts::{
-    added, begun, entered, finished, index_active, indexed, nestable, not_nestable, scalar,
-    slice_of, told,
+    added, begun, entered, finished, index_active, indexed, nestable, not_nestable, scalar, told,
 };
 use crate::ranges::{Asked, Given, Ranges};
 use crate::settling::settle;
@@ -63,7 +62,7 @@ fn remembered<'x, R: Ranges>(
     match value {
         Tree::Null => Ok(Tree::Null),
         Tree::Items(trees) => {
-            let out = items(alloc, options, ranges, at, slice_of(trees)?, 0)?;
+            let out = items(alloc, options, ranges, at, trees.as_slice(), 0)?;
             Ok(Tree::Items(out))
         }
         Tree::Map(members) => node(alloc, options, ranges, at, memo, members),
@@ -505,7 +504,7 @@ fn nested<'x, R: Ranges>(
             ranges,
             inside,
             key,
-            slice_of(trees)?,
+            trees.as_slice(),
             made,
         ),
         Tree::Map(members) => {
