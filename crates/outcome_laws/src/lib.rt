@@ -1,7 +1,7 @@
 //! Laws of expansion (JSON-LD 1.1 API, section 5.1), as `expand_model` defines it.
 //!
 //! There is no code here. Each function does nothing, and its contract is one law, which `specs/Laws.antt` states in the
-//! words of `specs/Statements.antt`.
+//! words of `specs/Statements.antt` and `specs/Objects.antt`.
 #![tactic(auto)]
 
 ghost use Rattle.outcome_laws.specs.Laws.{APlainDocumentExpandsToItself, ItemsExpandInTurn, OnlyNodeObjectsStandAtTheTop, OutcomeIsMadeOfObjects, PlainDocumentsFlattenAlike};
