@@ -1,4 +1,4 @@
--- Value expansion (JSON-LD 1.1 API, section 5.3.2), and adding a value to an entry (section 4.? of the same, Add Value).
+-- Value expansion (JSON-LD 1.1 API, section 5.3.2), and adding a value to an entry (the standard's Add Value).
 use Rattle.std.specs.Prelude.{◌&&◌, ◌||◌, Bool, true, false, List, [], ◌∷◌, ◌++◌, Option, None, Some, codes, if◌then◌else◌}
 use Rattle.std.specs.Option.{option_map, option_map_or, option_and_then}
 use Rattle.std.specs.Str.{bytes_eq}
