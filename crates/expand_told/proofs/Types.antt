@@ -1,5 +1,5 @@
 -- A type that isn't an array is made one.
-use Rattle.std.proofs.Common.{◌≡◌, [], ◌∷◌, true, Option, None, Some, refl}
+use Rattle.std.proofs.Common.{◌≡◌, [], true, Option, None, Some, refl}
 use Rattle.std.specs.Prelude.{codes}
 use Rattle.ld_model.specs.Tree.{Tree, Pairs, null, truth, whole, one_one, text, array, object, member_at}
 use Rattle.expand_model.specs.Values.{add_all}

@@ -52,7 +52,7 @@ pub fn as_items(alloc: Global, value: Tree) -> Result<Trees, AllocError>
 
 /// A map with one entry.
 #[tactic(auto, unfolding(ld_model::specs::Tree::put))]
-pub fn one_entry(alloc: Global, key: &str, value: Tree) -> Result<Tree, AllocError>
+pub(crate) fn one_entry(alloc: Global, key: &str, value: Tree) -> Result<Tree, AllocError>
     ensures { IfOk result (λ t. view t ≡ scope.one_entry key.now (view value)) }
 {
     let mut members = Members::with_capacity(alloc, 1)?;

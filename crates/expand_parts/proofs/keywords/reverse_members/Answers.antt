@@ -1,5 +1,4 @@
 use Rattle.std.proofs.Common.{◌≡◌, ap, sym, ◌∙◌}
-use Rattle.ld_tree.specs.View.{view}
 use Rattle.expand_model.specs.Keywords.{each_reversed, forward_added, reversed_in}
 use Rattle.expand_model.specs.Properties.{reverses_of}
 use Rattle.expand_values.proofs.Carried.{answers_of}

@@ -1,4 +1,4 @@
-use Rattle.std.proofs.Common.{sym, ap, ap₂, ◌∙◌}
+use Rattle.std.proofs.Common.{sym, ap₂, ◌∙◌}
 use Rattle.expand_model.specs.Values.{add_all}
 use Rattle.expand_told.proofs.Types.{lone_type}
 use Rattle.expand_told.proofs.finish.with_types.Goals as goal
