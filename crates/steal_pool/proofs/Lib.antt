@@ -1,0 +1,6 @@
+mod Moves
+mod Lists
+mod Homes
+mod Dealers
+mod Results
+mod Seats
