@@ -4,3 +4,6 @@ mod Homes
 mod Dealers
 mod Results
 mod Seats
+mod Gathers
+mod Finishing
+mod Runs

@@ -1,7 +1,9 @@
 -- Facts of the elements of a list and their numbers.
-use Rattle.std.proofs.Common.{◌≡◌, ℕ, zero, suc, ◌<◌, ◌≢◌, ◌⊎◌, List, [], ◌∷◌, ◌++◌, length, map, set, get_or, refl, sym, ap, ◌∙◌, subst, inl, inr, ⊎_elim, slice_get, Some, All, arith}
+use Rattle.std.proofs.Common.{◌≡◌, ℕ, zero, suc, ◌+◌, ◌<◌, ◌≢◌, ◌⊎◌, List, [], ◌∷◌, ◌++◌, length, map, set, get_or, take, refl, sym, ap, ◌∙◌, subst, inl, inr, ⊎_elim, slice_get, Some, None, Option, All, arith}
 use Rattle.std.proofs.lemmas.Option.{slice_get_read}
-use Rattle.std.proofs.lemmas.List.Elements.{All-nil, All-cons}
+use Rattle.std.proofs.lemmas.List.Elements.{All-nil, All-cons, All-head, All-tail, All-pop}
+use Rattle.std.proofs.lemmas.List.{length-append}
+use Rattle.std.specs.Option.{option_to_list}
 use Rattle.steal_pool.specs.Pools.{Each}
 
 pub some_is : {X : Type 0} (a b : X) → Some a ≡ Some b → a ≡ b
@@ -74,3 +76,35 @@ mapped_is f [] [] same each = refl
 mapped_is f [] (y ∷ ys) same each = absurd (omega arith)
 mapped_is f (x ∷ xs) [] same each = absurd (omega arith)
 mapped_is f (x ∷ xs) (y ∷ ys) same each = let here : y ≡ f x = some_is y (f x) (each 0 x refl) in let rest = mapped_is f xs ys (omega arith) (λ k. each (suc k)) in cc
+
+pub got_here : {X : Type 0} (xs : List X) (i : ℕ) (y : X) → i < length xs → slice_get (set xs i y) i ≡ Some y
+got_here [] i y inside = absurd (omega arith)
+got_here (x ∷ xs) zero y inside = refl
+got_here (x ∷ xs) (suc i) y inside = got_here xs i y (omega arith)
+
+pub got_below : {X : Type 0} (xs : List X) (k : ℕ) → k < length xs → (x : X) × (slice_get xs k ≡ Some x)
+got_below [] k inside = absurd (omega arith)
+got_below (x ∷ xs) zero inside = (x, refl)
+got_below (x ∷ xs) (suc k) inside = got_below xs k (omega arith)
+
+pub got_taken : {X : Type 0} (n : ℕ) (xs : List X) (k : ℕ) (x : X) → slice_get (take n xs) k ≡ Some x → slice_get xs k ≡ Some x
+got_taken zero xs k x e = absurd (cc)
+got_taken (suc n) [] k x e = absurd (cc)
+got_taken (suc n) (y ∷ ys) zero x e = e
+got_taken (suc n) (y ∷ ys) (suc k) x e = got_taken n ys k x e
+
+pub all_mapped : {X Y : Type 0} (F : Y → Type 0) (f : X → Y) (xs : List X) → All F (map f xs) → All (λ x. F (f x)) xs
+all_mapped F f [] all = All-nil (λ x. F (f x))
+all_mapped F f (x ∷ xs) all = All-cons (λ z. F (f z)) x xs (All-head F (f x) (map f xs) all) (all_mapped F f xs (All-tail F (f x) (map f xs) all))
+
+pub got_all : {X : Type 0} (F : X → Type 0) (xs : List X) (k : ℕ) (x : X) → All F xs → slice_get xs k ≡ Some x → F x
+got_all F [] k x all e = absurd (cc)
+got_all F (y ∷ ys) zero x all e = subst F (some_is y x e) (All-head F y ys all)
+got_all F (y ∷ ys) (suc k) x all e = got_all F ys k x (All-tail F y ys all) e
+
+-- one was taken off the end
+pub popped : {X : Type 0} (F : X → Type 0) (xs ys : List X) (r : Option X) (x : X) → xs ≡ ys ++ option_to_list r → r ≡ Some x → All F xs → All F ys × F x × (length xs ≡ length ys + 1)
+popped F xs ys None x is some all = absurd (cc)
+popped F xs ys (Some y) x is some all =
+    let p = All-pop F xs ys (Some y) is all in
+    (p.0, subst F (some_is y x some) p.1, ap length is ∙ length-append ys (y ∷ []))
