@@ -34,7 +34,8 @@ pub record Hands : Type 0 where
 abbrev pub hands : ℕ → List DequeId → List Hand → Hands
 hands own which views = record { own = own; which = which; views = views }
 
--- The home of a deque is the pieces whose number leaves its number when it is divided by the number of deques, each once
+-- The home of a deque is the pieces whose number leaves its number when it is divided by the number of deques, each once.
+-- [Ours: dealt in turn, the pieces go out about in order, so that a failing piece is known early wherever it stands]
 pub record IsHome (pieces deques at : ℕ) (home : List ℕ) : Type 0 where
   pub once : (x : ℕ) → times x home ≤ 1
   pub inside : (x : ℕ) → 0 < times x home → (x < pieces) × (x % deques ≡ at)

@@ -68,7 +68,7 @@ impl Dealer {
         put(&mut self.owners[at], piece)
     }
 
-    /// Deals the pieces in order, one to each deque in turn.
+    /// Deals the pieces in order, one to each deque in turn, so that a failing piece is known early wherever it stands.
     pub(crate) fn deal(&mut self) -> Result<(), AllocError>
         requires some { 0 < length self.old.owners.items }
         requires empty { Each (Dealing (length self.old.owners.items) 0 0) self.old.owners.items }

@@ -84,7 +84,8 @@ where
     Ok(answers)
 }
 
-/// What the job comes to. All pieces before the least failure that came back are answered, in order: where no answer
+/// What the job comes to. Nothing is left in the deques here, since each worker has come back with its deques empty; what
+/// a worker skipped has no answer. All pieces before the least failure that came back are answered, in order: where no answer
 /// came back, the caller performs the piece. So whatever a worker has skipped, the answer is that of one worker who takes
 /// the pieces in order.
 ///
