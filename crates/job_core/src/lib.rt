@@ -2,13 +2,20 @@
 //!
 //! A seat takes a piece that waits. A piece that fails is reported. Any other is entered in every shard, each time
 //! under that shard's turn, unless an earlier piece is seen to have failed: then it may be skipped.
+//!
+//! [`Piecework`] is such a job as a trait, with its parts for each shard, and [`Merge`] says how neighbouring parts come
+//! together.
 #![tactic(auto)]
 
+mod merge;
+mod piecework;
 mod place;
 mod runs;
 mod saying;
 mod state;
 
+pub use merge::{Merge, Unmerged};
+pub use piecework::Piecework;
 pub use runs::every_closed_run;
 pub use state::JobState;
 use thiserror::Error;

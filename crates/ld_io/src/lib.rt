@@ -7,10 +7,13 @@
 //! from every other answer.
 //!
 //! [`read_to_end`], [`write_all`] and [`write_and_finish`] are the loops over them.
+//!
+//! A [`Gate`] is told of each piece of a job that threads perform.
 #![tactic(auto)]
 
 mod calls;
 mod dir_folder;
+mod gate;
 mod list_sink;
 mod list_source;
 mod map_folder;
@@ -19,6 +22,7 @@ mod traits;
 mod whole;
 
 pub use dir_folder::DirFolder;
+pub use gate::{Gate, OpenGate, Phase};
 pub use list_sink::ListSink;
 pub use list_source::ListSource;
 pub use map_folder::MapFolder;

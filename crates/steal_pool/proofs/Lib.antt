@@ -1,0 +1,9 @@
+mod Moves
+mod Lists
+mod Homes
+mod Dealers
+mod Results
+mod Seats
+mod Gathers
+mod Finishing
+mod Runs
