@@ -90,6 +90,6 @@ langtag _ = None
 -- ---- where a terminal ends
 
 -- The answer of a call is what stands at a place in the bytes, with the place behind it.
-abbrev pub IsReadAt : List ℕ → Option (List ℕ × ℕ) → Option (List ℕ × List ℕ) → Type 0
+abbrev pub IsReadAt : {T : Type 0} → List ℕ → Option (T × ℕ) → Option (T × List ℕ) → Type 0
 IsReadAt bytes None read = read ≡ None
 IsReadAt bytes (Some found) read = (found.1 ≤ length bytes) × (read ≡ Some (found.0, drop found.1 bytes))
