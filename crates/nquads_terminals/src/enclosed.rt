@@ -12,9 +12,9 @@ use ld_text::Text;
 use std::alloc::{AllocError, Global};
 use std::str;
 
-/// Which of the two.
+/// Which of the two terminals that have escapes: `specs/Characters.antt` speaks of them.
 #[derive(Clone, Copy)]
-pub(crate) enum Enclosed {
+pub enum Enclosed {
     /// IRIREF
     Iri,
     /// STRING_LITERAL_QUOTE

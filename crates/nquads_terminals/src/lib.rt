@@ -12,6 +12,7 @@ mod language;
 mod place;
 mod string;
 
+pub use enclosed::Enclosed;
 pub use iri::iriref_at;
 pub use label::label_at;
 pub use language::langtag_at;
