@@ -1,0 +1,6 @@
+pub mod Labels
+pub mod Strings
+pub mod Names
+pub mod Tags
+pub mod Terms
+pub mod Statements
