@@ -4,3 +4,5 @@ pub mod Names
 pub mod Tags
 pub mod Terms
 pub mod Statements
+pub mod Ends
+pub mod Whole

@@ -1,11 +1,11 @@
 -- An IRI that was written is read back.
-use Rattle.std.proofs.Common.{◌≡◌, ℕ, suc, ◌+◌, ◌<◌, ◌≤◌, Bool, true, false, cond, leb, List, [], ◌∷◌, ◌++◌, length, Option, Some, None, refl, sym, ap, ◌∙◌, arith, append_assoc}
+use Rattle.std.proofs.Common.{◌≡◌, ℕ, ◌≤◌, true, cond, leb, List, [], ◌∷◌, ◌++◌, length, Some, None, refl, ap, ◌∙◌, arith, append_assoc}
 use Rattle.std.proofs.lemmas.Bool.{and_parts, and_from}
 use Rattle.std.proofs.lemmas.Bool.Decides.{nat_tests}
 use Rattle.std.specs.List.{prefix_len, list_all, position_or_len}
 use Rattle.std.specs.Str.{is_utf8}
 use Rattle.iri_ref.specs.Parts.{is_iri_byte, is_well_formed, has_scheme, colon}
-use Rattle.nquads_terminals.specs.Characters.{enclosed, onto, only, enclosed_text}
+use Rattle.nquads_terminals.specs.Characters.{enclosed, only, enclosed_text}
 use Rattle.nquads_terminals.specs.Terminals.{iriref, iri_text, is_iri, backslash}
 use Rattle.nquads_terminals.specs.declared.enclosed.Enclosed.TheVariants.{Iri}
 use Rattle.nquads_terminals.proofs.Raw.{raw_is_not_closing, raw_is_no_backslash}

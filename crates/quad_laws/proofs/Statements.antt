@@ -1,13 +1,13 @@
 -- The line of a quad that was written says just that quad.
-use Rattle.std.proofs.Common.{◌≡◌, ℕ, Bool, true, false, cond, eqb, List, [], ◌∷◌, ◌++◌, Ok, Err, Option, Some, None, Result, refl, sym, ap, ◌∙◌, subst, append_assoc, inl, inr, codes}
-use Rattle.std.proofs.lemmas.Bool.{and_parts, and_from, false≢true}
+use Rattle.std.proofs.Common.{◌≡◌, ℕ, true, List, [], ◌∷◌, ◌++◌, Ok, Option, Some, None, Result, refl, sym, ap, ◌∙◌, subst, append_assoc, inl, inr, codes}
+use Rattle.std.proofs.lemmas.Bool.{and_parts, false≢true}
 use Rattle.rdf_terms.specs.declared.term.Term.{Term}
 use Rattle.rdf_terms.specs.declared.term.Term.TheVariants.{Iri, Blank, Literal}
 use Rattle.rdf_terms.specs.declared.term.Quad.{Quad}
 use Rattle.rdf_terms.specs.Quad.{is_valid_term, is_iri, is_iri_or_blank, graph_passes}
-use Rattle.nquads_text.specs.Statement.{gap, spaced, iri, node, and_then, needed, subject, predicate, object, graph, graph_from, ending, statement, statement_if_any, said, quad_of}
+use Rattle.nquads_text.specs.Statement.{iri, and_then, needed, subject, predicate, object, graph, graph_from, ending, statement, statement_if_any, said, quad_of}
 use Rattle.std.specs.List.{flat_map}
-use Rattle.nquads_text.specs.Written.{escaped, annotation, term_text, next_text, triple_text, graph_text}
+use Rattle.nquads_text.specs.Written.{escaped, annotation, term_text, next_text, graph_text}
 use Rattle.quad_laws.specs.Text.{is_text, IsGood, line_text}
 use Rattle.quad_laws.proofs.Names.{iri_back}
 use Rattle.quad_laws.proofs.Terms.{Starts, gap_back, spaced_back, node_back, node_starts, object_back}
@@ -74,20 +74,20 @@ abbrev whole : Quad → List ℕ
 whole q = term_text q.subject ++ (32 ∷ behind_subject q)
 
 -- what is known of the terms of a good quad
-record Good (q : Quad) : Type 0 where
-  subject_kind : is_iri_or_blank q.subject ≡ true
-  predicate_kind : is_iri q.predicate ≡ true
-  graph_kind : graph_passes is_iri_or_blank q.graph ≡ true
-  subject_valid : is_valid_term q.subject ≡ true
-  predicate_valid : is_valid_term q.predicate ≡ true
-  object_valid : is_valid_term q.object ≡ true
-  graph_valid : graph_passes is_valid_term q.graph ≡ true
-  subject_text : is_text q.subject ≡ true
-  predicate_text : is_text q.predicate ≡ true
-  object_text : is_text q.object ≡ true
-  graph_is_text : graph_passes is_text q.graph ≡ true
+pub record Good (q : Quad) : Type 0 where
+  pub subject_kind : is_iri_or_blank q.subject ≡ true
+  pub predicate_kind : is_iri q.predicate ≡ true
+  pub graph_kind : graph_passes is_iri_or_blank q.graph ≡ true
+  pub subject_valid : is_valid_term q.subject ≡ true
+  pub predicate_valid : is_valid_term q.predicate ≡ true
+  pub object_valid : is_valid_term q.object ≡ true
+  pub graph_valid : graph_passes is_valid_term q.graph ≡ true
+  pub subject_text : is_text q.subject ≡ true
+  pub predicate_text : is_text q.predicate ≡ true
+  pub object_text : is_text q.object ≡ true
+  pub graph_is_text : graph_passes is_text q.graph ≡ true
 
-good_from : (q : Quad) → IsGood q → Good q
+pub good_from : (q : Quad) → IsGood q → Good q
 good_from q good =
     let kinds = and_parts _ _ good.0.0 in
     let first = and_parts _ _ kinds.0 in

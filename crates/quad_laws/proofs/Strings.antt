@@ -1,11 +1,10 @@
 -- A string that was written is read back.
-use Rattle.std.proofs.Common.{◌≡◌, ℕ, suc, ◌+◌, ◌<◌, ◌≤◌, Bool, true, false, cond, eqb, List, [], ◌∷◌, ◌++◌, length, Option, Some, None, refl, sym, ap, ◌∙◌, subst, arith, append_assoc}
+use Rattle.std.proofs.Common.{◌≡◌, ℕ, Bool, true, false, cond, eqb, List, [], ◌∷◌, ◌++◌, Some, None, refl, ap, ◌∙◌, arith, append_assoc}
 use Rattle.std.proofs.lemmas.Bool.Decides.{nat_tests}
 use Rattle.std.proofs.lemmas.Str.Ascii.{encode_ascii}
 use Rattle.std.specs.List.{flat_map}
-use Rattle.std.specs.Char.{encode_utf8}
 use Rattle.std.specs.Str.{is_utf8}
-use Rattle.nquads_terminals.specs.Characters.{is_raw, enclosed, onto, only, enclosed_text}
+use Rattle.nquads_terminals.specs.Characters.{enclosed, onto, only}
 use Rattle.nquads_terminals.specs.Terminals.{string}
 use Rattle.nquads_terminals.specs.declared.enclosed.Enclosed.TheVariants.{Quoted}
 use Rattle.nquads_text.specs.Written.{escaped, quoted}

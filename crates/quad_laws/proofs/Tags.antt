@@ -1,5 +1,5 @@
 -- A language tag that was written is read back.
-use Rattle.std.proofs.Common.{◌≡◌, ℕ, suc, ◌+◌, Bool, true, false, cond, ◌&&◌, not, eqb, List, [], ◌∷◌, ◌++◌, length, take, drop, Option, Some, None, refl, sym, ap, ◌∙◌, arith}
+use Rattle.std.proofs.Common.{◌≡◌, ℕ, suc, ◌+◌, Bool, true, false, ◌&&◌, not, eqb, List, [], ◌∷◌, ◌++◌, length, Some, refl, sym, ap, ◌∙◌, arith}
 use Rattle.std.proofs.lemmas.Bool.{and_parts, and_from, false≢true}
 use Rattle.std.proofs.lemmas.Bool.Decides.{nat_tests}
 use Rattle.std.proofs.lemmas.List.Splits.{slice_split-cons_yes, slice_split-cons_no}
@@ -9,25 +9,25 @@ use Rattle.std.specs.Char.{is_ascii_alphabetic, is_ascii_alphanumeric}
 use Rattle.rdf_terms.specs.Language.{is_letters, is_letters_or_digits, are_tag_parts, is_tag}
 use Rattle.nquads_terminals.specs.Terminals.{is_tag_byte, begins_part, tag_more, langtag}
 
-abbrev hyphen : ℕ → Bool
+abbrev pub hyphen : ℕ → Bool
 hyphen b = eqb b 45
 
-abbrev parts : List ℕ → List (List ℕ)
+abbrev pub parts : List ℕ → List (List ℕ)
 parts bs = slice_split hyphen bs
 
 -- the parts from a place inside a part on, whose bytes may be none
-abbrev goes : Bool → List (List ℕ) → Bool
+abbrev pub goes : Bool → List (List ℕ) → Bool
 goes first [] = true
 goes first (part ∷ more) = list_all (is_tag_byte first) part && list_all is_letters_or_digits more
 
-onto_goes : (first : Bool) (b : ℕ) (ps : List (List ℕ)) → goes first (onto_first b ps) ≡ true → (is_tag_byte first b ≡ true) × (goes first ps ≡ true)
+pub onto_goes : (first : Bool) (b : ℕ) (ps : List (List ℕ)) → goes first (onto_first b ps) ≡ true → (is_tag_byte first b ≡ true) × (goes first ps ≡ true)
 onto_goes first b [] all = ((and_parts _ _ (and_parts _ _ all).0).0, refl)
 onto_goes first b (p ∷ ps) all =
     let both = and_parts (is_tag_byte first b && list_all (is_tag_byte first) p) (list_all is_letters_or_digits ps) all in
     let bytes = and_parts (is_tag_byte first b) (list_all (is_tag_byte first) p) both.0 in
     (bytes.0, and_from _ _ bytes.1 both.1)
 
-all_goes : (ps : List (List ℕ)) → list_all is_letters_or_digits ps ≡ true → goes false ps ≡ true
+pub all_goes : (ps : List (List ℕ)) → list_all is_letters_or_digits ps ≡ true → goes false ps ≡ true
 all_goes [] all = refl
 all_goes (p ∷ ps) all =
     let both = and_parts (is_letters_or_digits p) (list_all is_letters_or_digits ps) all in
@@ -78,7 +78,7 @@ pub more_back : (first : Bool) (bs rest : List ℕ) → goes first (parts bs) �
 more_back first [] rest all = space_ends first rest
 more_back first (b ∷ bs) rest all = step first b bs (32 ∷ rest) (hyphen b) refl all (more_back first bs rest) (more_back false bs rest)
 
-tag_first : (b : ℕ) (ps : List (List ℕ)) → are_tag_parts (onto_first b ps) ≡ true → (is_ascii_alphabetic b ≡ true) × (goes true ps ≡ true)
+pub tag_first : (b : ℕ) (ps : List (List ℕ)) → are_tag_parts (onto_first b ps) ≡ true → (is_ascii_alphabetic b ≡ true) × (goes true ps ≡ true)
 tag_first b [] all =
     let both = and_parts (is_letters (b ∷ [])) true all in
     let bytes = and_parts (not (eqb (length (b ∷ [])) 0)) (is_ascii_alphabetic b && true) both.0 in

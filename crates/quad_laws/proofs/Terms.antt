@@ -1,8 +1,8 @@
 -- A term that was written is read back.
-use Rattle.std.proofs.Common.{◌≡◌, ℕ, ◌+◌, Bool, true, false, cond, eqb, List, [], ◌∷◌, ◌++◌, Ok, Err, Option, Some, None, Result, refl, sym, ap, ◌∙◌, subst, arith, append_assoc, ◌⊎◌, inl, inr, nat_eq, codes}
-use Rattle.std.proofs.lemmas.Bool.{and_parts, and_from, false≢true}
+use Rattle.std.proofs.Common.{◌≡◌, ℕ, Bool, true, false, cond, eqb, List, [], ◌∷◌, ◌++◌, Ok, Option, Some, None, refl, sym, ap, ◌∙◌, subst, arith, append_assoc, ◌⊎◌, inl, inr, codes}
+use Rattle.std.proofs.lemmas.Bool.{and_parts, false≢true}
 use Rattle.std.proofs.lemmas.Bool.Decides.{nat_tests}
-use Rattle.std.specs.List.{flat_map, starts_with}
+use Rattle.std.specs.List.{flat_map}
 use Rattle.std.specs.Str.{is_utf8, bytes_eq}
 use Rattle.case_tables.specs.Datatype.{datatype_name}
 use Rattle.case_tables.specs.declared.datatype.Datatype.TheVariants.{XsdString, RdfLangString}
@@ -12,10 +12,9 @@ use Rattle.ld_model.proofs.Puts.{bytes_eq-exact}
 use Rattle.rdf_terms.specs.Language.{is_tag}
 use Rattle.rdf_terms.specs.declared.term.Term.{Term}
 use Rattle.rdf_terms.specs.declared.term.Term.TheVariants.{Iri, Blank, Literal}
-use Rattle.rdf_terms.specs.Quad.{is_valid_term, is_iri, is_iri_or_blank, is_label, is_label_body, is_language_of}
-use Rattle.nquads_terminals.specs.Terminals.{iriref, label, string, langtag}
-use Rattle.nquads_text.specs.Statement as says
-use Rattle.nquads_text.specs.Statement.{gap, spaced, node, as_term, and_then, annotated, typed, tagged, literal, literal_from, object, object_from, needed}
+use Rattle.rdf_terms.specs.Quad.{is_valid_term, is_iri_or_blank, is_label, is_language_of}
+use Rattle.nquads_terminals.specs.Terminals.{iriref, label}
+use Rattle.nquads_text.specs.Statement.{gap, spaced, node, as_term, and_then, annotated, literal_from, object, object_from, needed}
 use Rattle.nquads_text.specs.Written.{escaped, quoted, bracketed, annotation, term_text}
 use Rattle.quad_laws.specs.Text.{is_text}
 use Rattle.quad_laws.proofs.Strings.{string_back}

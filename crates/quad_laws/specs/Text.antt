@@ -1,5 +1,5 @@
 -- What the laws of N-Quads speak of.
-use Rattle.std.specs.Prelude.{ℕ, ◌&&◌, Bool, true, List, ◌++◌, codes, Option, Some, None, IsTrue, [], ◌∷◌}
+use Rattle.std.specs.Prelude.{ℕ, ◌&&◌, Bool, List, ◌++◌, codes, IsTrue, [], ◌∷◌}
 use Rattle.std.specs.Str.{is_utf8}
 use Rattle.rdf_terms.specs.declared.term.Term.{Term}
 use Rattle.rdf_terms.specs.declared.term.Term.TheVariants.{Iri, Blank, Literal}
