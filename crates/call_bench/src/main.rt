@@ -4,7 +4,8 @@
 //! line that it reads against `http://a/b/c/d;p?q`. `call_bench read` reads a document and writes how many values it has.
 //! `call_bench load FOLDER` loads a folder of contexts, and writes how
 //! many of the IRIs that it reads, one on each line, have a context there. `call_bench process` processes the context that
-//! it reads, and writes how many terms that gives; `call_bench copy` then copies the outcome 100,000 times, too. It ends
+//! it reads, and writes how many terms that gives; `call_bench copy` then copies the outcome 100,000 times, too.
+//! `call_bench lines` reads N-Quads and writes how many quads they are; `call_bench quads` writes them again. It ends
 //! with status 1 where it can't.
 #![tactic(auto)]
 
@@ -13,8 +14,9 @@ use ctx_store::{Loaded, Store, load};
 use ctx_types::ActiveContext;
 use iri_ref::resolve;
 use json_canon::canonical;
-use ld_io::{DirFolder, StdSink, StdSource, read_to_end, write_and_finish};
+use ld_io::{DirFolder, Sink, StdSink, StdSource, read_to_end, write_and_finish};
 use ld_json::{Text, read_tree, weight};
+use nquads_text::{read_lines, write_quads};
 use std::alloc::{AllocError, Global};
 use std::process::ExitCode;
 use std::{env, str};
@@ -45,6 +47,8 @@ fn run(rt: &HostRuntime) -> Option<()> {
             rt.alloc(),
             processed(rt.alloc(), input.as_slice())?.terms.len() as u64,
         )?,
+        "lines" => number_line(rt.alloc(), quads_of(rt.alloc(), input.as_slice())?)?,
+        "quads" => return write_again(rt, input.as_slice()),
         "copy" => number_line(rt.alloc(), copied(rt.alloc(), input.as_slice())?)?,
         _ => return None,
     };
@@ -126,4 +130,18 @@ fn copied(alloc: Global, input: &[u8]) -> Option<u64> {
         count = count.saturating_add(copy.terms.len() as u64);
     }
     Some(count)
+}
+
+/// How many quads the lines have.
+fn quads_of(alloc: Global, input: &[u8]) -> Option<u64> {
+    let quads = read_lines(alloc, input, 1).ok()?;
+    Some(quads.len() as u64)
+}
+
+/// Reads the quads, and writes them to standard output.
+fn write_again(rt: &HostRuntime, input: &[u8]) -> Option<()> {
+    let quads = read_lines(rt.alloc(), input, 1).ok()?;
+    let mut sink = StdSink::new(rt.stdout());
+    write_quads(quads.as_slice(), &mut sink).ok()?;
+    sink.finish().ok()
 }

@@ -2,7 +2,6 @@
 use ld_text::Text;
 
 /// An RDF term (RDF 1.1 Concepts, section 3).
-#[derive(Drop)]
 pub enum Term {
     /// An IRI.
     Iri(Text),
@@ -17,6 +16,20 @@ pub enum Term {
         /// The language tag of a language-tagged string, without an `@`.
         language: Option<Text>,
     },
+}
+
+// By hand, so that what is proved of a caller sees one drop, and not one for each kind.
+impl Drop for Term {
+    fn drop(self) {
+        match self {
+            Term::Iri(_) | Term::Blank(_) => {}
+            Term::Literal {
+                lexical: _,
+                datatype: _,
+                language: _,
+            } => {}
+        }
+    }
 }
 
 /// A triple, in the default graph or in a named one (RDF 1.1 Concepts, section 4).

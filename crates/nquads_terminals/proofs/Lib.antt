@@ -1,0 +1,4 @@
+pub mod Raw
+pub mod Labels
+pub mod Tags
+pub mod Iris

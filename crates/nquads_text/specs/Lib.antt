@@ -1,0 +1,5 @@
+pub mod Statement
+pub mod Lines
+pub mod Places
+pub mod Written
+pub mod Blocks
