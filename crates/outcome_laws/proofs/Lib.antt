@@ -3,6 +3,7 @@ pub mod Steps
 pub mod Names
 pub mod TopEntries
 pub mod TopFinish
+pub mod Walk
 pub mod TopNodes
 pub mod PlainKeys
 pub mod PlainMaps
