@@ -1,5 +1,4 @@
-use crate::runs::{FLATTEN, NEVER, ROOM, left, run_on, sink_of, source_of};
-use ld_io::read_to_end;
+use crate::runs::{NEVER, ROOM, flatten_on, left, sink_of, source_of};
 use ld_run::Status;
 use std::test::Fail;
 
@@ -29,38 +28,11 @@ fn small_reads_and_writes_give_the_same_bytes(rt: HostRuntime) -> Result<(), Fai
         let mut source = source_of(alloc, TWO_NODES.as_bytes(), *reading, NEVER)?;
         let mut out = sink_of(alloc, *writing, NEVER, ROOM)?;
         let mut err = sink_of(alloc, 1, NEVER, ROOM)?;
-        let status = run_on(alloc, &FLATTEN, &mut source, &mut out, &mut err)?;
+        let status = flatten_on(alloc, &mut source, &mut out, &mut err)?;
         assert!(rt;
             left(&status, &out, &err, (0, TWO_NODES_LINE.as_bytes(), b"")),
             "{name}"
         );
-    }
-    Ok(())
-}
-
-const NO_COMMANDS: [(&str, &[&str]); 4] = [
-    ("no words", &[]),
-    ("an unknown word", &["expand"]),
-    ("a front of the word", &["flat"]),
-    ("two words", &["flatten", "flatten"]),
-];
-
-#[test]
-fn words_but_the_command_are_refused_before_the_source_is_read(
-    rt: HostRuntime,
-) -> Result<(), Fail> {
-    let alloc = rt.alloc();
-    for (name, words) in &NO_COMMANDS {
-        let mut source = source_of(alloc, NODE.as_bytes(), 100, 0)?;
-        let mut out = sink_of(alloc, 100, NEVER, ROOM)?;
-        let mut err = sink_of(alloc, 100, NEVER, ROOM)?;
-        let status = run_on(alloc, words, &mut source, &mut out, &mut err)?;
-        assert!(rt;
-            left(&status, &out, &err, (2, b"", b"error: usage\n")),
-            "{name}"
-        );
-        // The first call of the source fails, and it is still to come.
-        assert!(rt; read_to_end(alloc, &mut source).is_err(), "{name}");
     }
     Ok(())
 }
@@ -72,7 +44,7 @@ fn a_source_that_fails_is_a_read_fault(rt: HostRuntime) -> Result<(), Fail> {
         let mut source = source_of(alloc, NODE.as_bytes(), 10, *failing)?;
         let mut out = sink_of(alloc, 100, NEVER, ROOM)?;
         let mut err = sink_of(alloc, 100, NEVER, ROOM)?;
-        let status = run_on(alloc, &FLATTEN, &mut source, &mut out, &mut err)?;
+        let status = flatten_on(alloc, &mut source, &mut out, &mut err)?;
         assert!(rt;
             left(&status, &out, &err, (3, b"", b"error: read fault\n")),
             "{name}"
@@ -95,7 +67,7 @@ fn an_output_that_fails_is_a_write_fault_and_holds_a_front(rt: HostRuntime) -> R
         let mut source = source_of(alloc, NODE.as_bytes(), 100, NEVER)?;
         let mut out = sink_of(alloc, *step, *failing, *room)?;
         let mut err = sink_of(alloc, 100, NEVER, ROOM)?;
-        let status = run_on(alloc, &FLATTEN, &mut source, &mut out, &mut err)?;
+        let status = flatten_on(alloc, &mut source, &mut out, &mut err)?;
         let want = (5, written.as_bytes(), b"error: write fault\n".as_slice());
         assert!(rt; left(&status, &out, &err, want), "{name}");
     }
@@ -106,15 +78,15 @@ fn an_output_that_fails_is_a_write_fault_and_holds_a_front(rt: HostRuntime) -> R
 fn an_error_output_that_fails_is_a_write_fault(rt: HostRuntime) -> Result<(), Fail> {
     let alloc = rt.alloc();
     for (name, text, failing, room, said) in &[
-        ("for a refusal", "[1]", 0, ROOM, ""),
-        ("at the second call", "[1]", 1, ROOM, "error: not"),
+        ("for a refusal", "[1.5]", 0, ROOM, ""),
+        ("at the second call", "[1.5]", 1, ROOM, "error: num"),
         ("where it is finished", "[", 2, ROOM, "error: syntax\n"),
         ("for a fault of the output", NODE, 0, 0, ""),
     ] {
         let mut source = source_of(alloc, text.as_bytes(), 100, NEVER)?;
         let mut out = sink_of(alloc, 100, NEVER, *room)?;
         let mut err = sink_of(alloc, 10, *failing, ROOM)?;
-        let status = run_on(alloc, &FLATTEN, &mut source, &mut out, &mut err)?;
+        let status = flatten_on(alloc, &mut source, &mut out, &mut err)?;
         assert!(rt;
             left(&status, &out, &err, (5, b"", said.as_bytes())),
             "{name}"
@@ -127,12 +99,13 @@ fn an_error_output_that_fails_is_a_write_fault(rt: HostRuntime) -> Result<(), Fa
 fn a_status_is_said_in_words(rt: HostRuntime) -> Result<(), Fail> {
     let alloc = rt.alloc();
     let said = format!(in alloc;
-        "{}; {}; {}",
+        "{}; {}; {}; {}",
         Status::Done,
         Status::Usage,
-        Status::ReadFault
+        Status::ReadFault,
+        Status::FolderFault
     )?;
-    assert!(rt; said.as_str() == "done; usage; read fault");
+    assert!(rt; said.as_str() == "done; usage; read fault; folder fault");
     let said = format!(in alloc;
         "{}; {}; {}",
         Status::WriteFault,

@@ -1,4 +1,4 @@
-//! Tests of the program's call and of node map generation, through their public functions, over streams in memory.
+//! Tests of the program's call and of node map generation, through their public functions, over streams and a folder in memory.
 #![tactic(auto)]
 
 #[cfg(test)]
@@ -7,5 +7,7 @@ mod document_tests;
 mod fault_tests;
 #[cfg(test)]
 mod node_map_tests;
+#[cfg(test)]
+mod order_tests;
 #[cfg(test)]
 mod runs;
