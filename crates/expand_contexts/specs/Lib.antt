@@ -1,2 +1,3 @@
 pub mod View
+pub mod Types
 pub mod Memo

@@ -1,7 +1,7 @@
 // A context that is lent, or made here.
 ghost use Rattle.std.specs.Prelude.{◌≡◌};
 ghost use Rattle.ctx_types.specs.ContextView.{context_view};
-ghost use Rattle.expand_contexts.specs.View.{active_view};
+ghost use Rattle.expand_contexts.specs.View.{active_view, made_view};
 
 use ctx_types::ActiveContext;
 
@@ -23,5 +23,18 @@ impl<'a> Active<'a> {
             Active::Lent(context) => context,
             Active::Own(context) => context,
         }
+    }
+}
+
+/// What was made of a context, or the context itself where nothing was.
+pub(crate) fn made_or<'a>(
+    made: &'a Option<ActiveContext>,
+    context: &'a ActiveContext,
+) -> &'a ActiveContext
+    ensures { context_view result.now ≡ made_view made.now (context_view context.now) }
+{
+    match made {
+        None => context,
+        Some(made) => made,
     }
 }

@@ -8,6 +8,9 @@
 mod active;
 mod entering;
 mod memo;
+mod scoped;
+mod terms;
+mod typing;
 
 pub use active::Active;
 pub use entering::{Entered, enter, index_context, scalar_context};
