@@ -6,12 +6,21 @@ ghost use Rattle.expand_contexts.specs.View.{active_view, made_view};
 use ctx_types::ActiveContext;
 
 /// An active context: one that stands elsewhere, or one that was made for a value alone.
-#[derive(Drop)]
 pub enum Active<'a> {
     /// It stands elsewhere.
     Lent(&'a ActiveContext),
     /// It was made here.
     Own(ActiveContext),
+}
+
+// By hand, so that what is proved of a caller sees one drop, and not one for each value of a context.
+impl<'a> Drop for Active<'a> {
+    fn drop(self) {
+        match self {
+            Active::Lent(_) => {}
+            Active::Own(_) => {}
+        }
+    }
 }
 
 impl<'a> Active<'a> {

@@ -20,7 +20,6 @@ use ld_tree::Members;
 use std::alloc::Global;
 
 /// The contexts of a map.
-#[derive(Drop)]
 pub struct Entered<'a> {
     /// The type-scoped context.
     pub types: Active<'a>,
@@ -30,6 +29,18 @@ pub struct Entered<'a> {
     pub json: bool,
     /// The active property of the map.
     pub property: Option<&'a str>,
+}
+
+// By hand, so that what is proved of a caller sees one drop, and not one for each value of a context.
+impl<'a> Drop for Entered<'a> {
+    fn drop(self) {
+        let Entered {
+            types: _,
+            typed: _,
+            json: _,
+            property: _,
+        } = self;
+    }
 }
 
 impl<'a> Entered<'a> {
