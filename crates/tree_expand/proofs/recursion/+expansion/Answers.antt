@@ -61,10 +61,10 @@ entries-loop-key-preserved g t c =
 
 pub nested-returns-in_err-nestable-in-Map : goal.nested-returns-in_err-nestable-in-Map
 nested-returns-in_err-nestable-in-Map g t c =
-    let passed : c.from_residual-in_err-nestable-in-Map.result ≡ Err c.in_err-nestable-in-Map.field-0.0 = grind (arith, common_steps) in
-    gives_of c.from_residual-in_err-nestable-in-Map.result (λ d. d) c.args.ranges.now
+    let passed : c.from_residual.result ≡ Err c.in_err-nestable-in-Map.field-0.0 = grind (arith, common_steps) in
+    gives_of c.from_residual.result (λ d. d) c.args.ranges.now
     (nested_map (options_view c.args.options.now) g.R.Ranges.asked g.R.Ranges.settles c.args.value.now c.in-Map.members c.args.key.now (inside_view c.args.inside.now) c.args.made c.args.ranges.now c.in-Map.is)
-    (gives_refused c.from_residual-in_err-nestable-in-Map.result c.in_err-nestable-in-Map.field-0.0 (λ d. d) c.args.ranges.now _ _ passed c.in_err-nestable-in-Map.ensures)
+    (gives_refused c.from_residual.result c.in_err-nestable-in-Map.field-0.0 (λ d. d) c.args.ranges.now _ _ passed c.in_err-nestable-in-Map.ensures)
 
 pub nested-returns-in_ok-nestable-in-Map : goal.nested-returns-in_ok-nestable-in-Map
 nested-returns-in_ok-nestable-in-Map g t c =
