@@ -35,7 +35,6 @@ list ts = array (trees_of ts)
 abbrev options : Options
 options = record { base = None; contexts = [] }
 
-
 -- A value object at the top says nothing.
 a_value_at_the_top_is_dropped : document options (entry_of (codes "@value") (text (codes "x"))) ≡ Ok []
 unfolding document entry name_of task_of entered in_map in_property is_left typed_by_entry begun keyword_entry keyword_put keyword_told finish_map put

@@ -1,5 +1,5 @@
 -- Steps of the recursion, where they don't compute.
-use Rattle.std.proofs.Common.{ℕ, suc, ◌≡◌, ◌+◌, ◌-◌, ◌<◌, ◌≤◌, List, [], ◌∷◌, Option, Result, Ok, Err, drop, take, get_or, length, sym, ap, ◌∙◌, subst, arith}
+use Rattle.std.proofs.Common.{ℕ, suc, ◌≡◌, ◌+◌, ◌-◌, ◌<◌, ◌≤◌, List, [], ◌∷◌, Option, Ok, drop, take, get_or, length, sym, ap, ◌∙◌, subst, arith}
 use Rattle.std.proofs.lemmas.List.{drop_more, take_rest}
 use Rattle.ld_model.specs.Tree as model
 use Rattle.ld_model.specs.Tree.{Pairs, members_weight, trees_of, members_of, member_list-members_of}

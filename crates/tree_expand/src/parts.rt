@@ -2,6 +2,7 @@
 ghost use Rattle.std.specs.Prelude.{◌≡◌, Err};
 ghost use Rattle.ld_model.specs.Tree.{Pairs};
 ghost use Rattle.ld_tree.specs.View.{view};
+ghost use Rattle.ctx_types.specs.ContextView.{context_view};
 ghost use Rattle.expand_model.specs.Scope.{in_key};
 ghost use Rattle.expand_model.specs.Indexes.{index_under};
 ghost use Rattle.expand_model.specs.Rules as rules;
@@ -15,7 +16,7 @@ ghost use Rattle.tree_expand.specs.View.{at_view, inside_view};
 use crate::at::{At, Inside};
 use crate::stop::ExpandStop;
 use case_tables::Code;
-use ctx_types::TermDef;
+use ctx_types::{ActiveContext, TermDef};
 use expand_contexts::{Active, Entered, Memo, enter, index_context, scalar_context};
 use expand_parts::{Draft, add, add_index, begin, finish, has_lists, scalar_value, tell};
 use expand_types::{Name, Options, PartStop, Scope, Trail, has_key, is_top, place_of};
@@ -175,6 +176,17 @@ pub(crate) fn index_active<'s>(
     let context = inside.scope.context;
     let outcome = index_context(alloc, options, context.terms.get(key), index, context);
     at_end(alloc, inside.trail, outcome)
+}
+
+/// What a value at an index is expanded with, in the context that was made for it.
+pub(crate) fn index_scope<'a>(context: &'a ActiveContext, key: &'a str) -> Scope<'a>
+    ensures { scope_view result ≡ index_under (context_view context.now) key.now }
+{
+    Scope {
+        context,
+        property: Some(key),
+        from_map: true,
+    }
 }
 
 /// The items so far, and those that a value at an index came to, which was expanded with `at`.

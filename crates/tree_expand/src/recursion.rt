@@ -11,7 +11,8 @@ ghost use Rattle.tree_expand.specs.View.{at_view, inside_view};
 
 use crate::at::{At, Inside};
 use crate::parts::{
-    added, begun, entered, finished, index_active, indexed, nestable, not_nestable, scalar, told,
+    added, begun, entered, finished, index_active, index_scope, indexed, nestable, not_nestable,
+    scalar, told,
 };
 use crate::ranges::{Asked, Given, Ranges};
 use crate::settling::settle;
@@ -19,7 +20,7 @@ use crate::stop::ExpandStop;
 use ctx_types::TermDef;
 use expand_contexts::Memo;
 use expand_parts::{Draft, has_lists, join, splice};
-use expand_types::{Name, Options, Scope, Task, Trail, expands_to, name_of, task_of, under};
+use expand_types::{Name, Options, Task, Trail, expands_to, name_of, task_of, under};
 use ld_tree::{Members, Tree, Trees};
 use std::alloc::Global;
 
@@ -427,13 +428,8 @@ fn index_entry<'x, R: Ranges>(
     let active = index_active(alloc, options, &*inside, &*key, &*index)?;
     let entry = Trail::InKey(inside.trail, key);
     let trail = Trail::InKey(&entry, index);
-    let scope = Scope {
-        context: active.get(),
-        property: Some(&*key),
-        from_map: true,
-    };
     let below = At {
-        scope,
+        scope: index_scope(active.get(), &*key),
         trail: &trail,
     };
     let outcome = element(alloc, options, ranges, &below, &*value)?;

@@ -1,4 +1,4 @@
-use Rattle.std.proofs.Common.{rules, ◌≡◌, ◌+◌, drop, Err, sym, ap, ◌∙◌, arith, suc, []}
+use Rattle.std.proofs.Common.{rules, ◌≡◌, ◌+◌, Err, sym, ap, ◌∙◌, arith}
 use Rattle.std.proofs.lemmas.Grind.{common_steps}
 use Rattle.ld_model.specs.Tree.{members_of, trees_of}
 use Rattle.ld_tree.specs.View.{view, trees_view}
