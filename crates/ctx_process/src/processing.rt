@@ -25,7 +25,7 @@ const REMOTE_CONTEXTS: u32 = 32;
 const SCOPED_CONTEXTS: u32 = 128;
 
 /// How many terms and contexts may be under way, each for the sake of the one before: what the stack is sure to hold.
-const CALLS: u32 = 1_600;
+const CALLS: u32 = 1_250;
 
 /// How a local context is processed.
 #[derive(Clone, Copy, Debug, PartialEq, Eq)]
@@ -49,7 +49,7 @@ pub struct Flags {
 ///
 /// # Limits
 ///
-/// A chain has at most 32 remote contexts, and at most 128 scoped contexts are under way. At most 1,600 calls are under way, each
+/// A chain has at most 32 remote contexts, and at most 128 scoped contexts are under way. At most 1,250 calls are under way, each
 /// for the sake of the one before: a term that is created, or a remote or scoped context that is processed. That is what the
 /// stack is sure to hold.
 ///
