@@ -43,7 +43,6 @@ ONE_FLAT = '[{"@id":"http://e/a","http://e/p":[{"@value":"v"}]}]'
 BAD = '{"@id":5}'
 CONFLICT = ('{"@id":"http://e/a","@index":"1"},'
             '{"@id":"http://e/a","@index":"2"}')
-NOT_BUILT = "error: not built"
 USAGE = "error: usage"
 
 
@@ -158,8 +157,6 @@ PLAIN = [
      '{"@id":"http://e/a","http://e/p":[{"@value":"v"}]}]',
      '[{"@id":"http://e/a","http://e/p":[{"@value":"v"}]},'
      '{"@id":"http://e/b","http://e/p":[{"@id":"http://e/a"}]}]'),
-    ("a type isn't plain", "flatten", '{"@id":"_:n","@type":"_:t"}',
-     NOT_BUILT),
     ("a value alone is dropped", "expand", '{"@value":"x"}', "[]"),
     ("a language map", "expand",
      '{"@context":{"n":{"@id":"http://e/n","@container":"@language"}},'
@@ -264,27 +261,23 @@ RESOLVED = [("http://a/b/c/d;p?q", reference, target) for reference, target in (
 
 def wrong_rows():
     """The examples that fail, as lines."""
-    for whole, rows in ((True, WHOLE), (False, PLAIN)):
-        command.FLATTEN_WHOLE = whole
-        for row in rows:
-            name, words, data, due = row[:4]
-            folder = row[4] if len(row) > 4 else {}
-            if type(data) is str:
-                data = data.encode()
-            got = command.answer(words.split(), data, folder)
-            line = (got.out + got.err).decode().rstrip("\n")
-            status = 0
-            if due.startswith("error: "):
-                status = 2 if due == USAGE else 1
-            if (line, got.status) != (due, status):
-                yield "%s: %s, status %d" % (name, line, got.status)
-    command.FLATTEN_WHOLE = True
+    for row in WHOLE + PLAIN:
+        name, words, data, due = row[:4]
+        folder = row[4] if len(row) > 4 else {}
+        if type(data) is str:
+            data = data.encode()
+        got = command.answer(words.split(), data, folder)
+        line = (got.out + got.err).decode().rstrip("\n")
+        status = 0
+        if due.startswith("error: "):
+            status = 2 if due == USAGE else 1
+        if (line, got.status) != (due, status):
+            yield "%s: %s, status %d" % (name, line, got.status)
     for end in range(len(PEOPLE)):
         got = command.answer(["flatten", "--contexts"],
                              PEOPLE[:end].encode(), FOLDER)
         if got.err != b"error: syntax\n":
             yield "the first %d bytes of a document" % end
-    command.FLATTEN_WHOLE = False
     for name, local, folder, due in PROCESSED:
         run = Run(command.folders.load(folder), None)
         try:

@@ -7,15 +7,12 @@ from . import folder as folders
 from . import reading
 from .contexts import Run
 from .expansion import expand_document
-from .flattening import flattening, is_plain
+from .flattening import flattening
 from .iris import is_well_formed
 from .node_map import node_map_generation
 from .places import pointer_of, steps_of
 from .printing import text_of
 from .refusals import ConflictingIndexes, Refused
-
-FLATTEN_WHOLE = False
-"""Whether `flatten` takes every expanded document, or just plain ones."""
 
 COMMANDS = ("flatten", "expand")
 LARGEST_INPUT = 268435456
@@ -117,8 +114,6 @@ def answer(words, data, folder):
         return _refusal(1, "%s at %s" % (
             refused.code, pointer_of(steps_of(refused.place))), run.deepest)
     if order.command == "flatten":
-        if not FLATTEN_WHOLE and not is_plain(tree):
-            return _refusal(1, "not built", run.deepest)
         try:
             tree = flattening(node_map_generation(tree))
         except ConflictingIndexes as refused:

@@ -1,6 +1,5 @@
 """The flattening algorithm without a context: API 7.1."""
 
-from .iris import has_form_of_iri
 from .node_map import DEFAULT
 
 
@@ -20,32 +19,3 @@ def flattening(node_map):
     # 5 to 7.
     return _printed(default)
 
-
-def is_plain(items):
-    """[Ours: whether an expanded document is plain.  Each item has an `@id`
-    that is a text in the form of an IRI, and beside it only keys in the form
-    of an IRI, each with an array of maps.  Such a map has just `@value` with a
-    text, or just `@id` with a text in the form of an IRI.]"""
-    return all(_is_plain_node(item) for item in items)
-
-
-def _is_plain_node(item):
-    if type(item) is not dict or "@id" not in item:
-        return False
-    for key, value in item.items():
-        if key == "@id":
-            if type(value) is not str or not has_form_of_iri(value):
-                return False
-        elif not has_form_of_iri(key) or type(value) is not list or not all(
-                _is_plain_value(one) for one in value):
-            return False
-    return True
-
-
-def _is_plain_value(value):
-    if type(value) is not dict or len(value) != 1:
-        return False
-    if "@value" in value:
-        return type(value["@value"]) is str
-    iri = value.get("@id")
-    return type(iri) is str and has_form_of_iri(iri)

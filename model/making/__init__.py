@@ -4,6 +4,7 @@
     maker       random contexts and documents
     documents   random cases, and changes to good documents
     sentences   documents around one part of the algorithms each
+    nodes       documents around node maps
     errors      a few ways to each error code
     outside     cases of bytes, words and folders
 """

@@ -22,7 +22,7 @@ class Maker:
         self.terms = []         # pairs of a term and its definition
         self.remote = []        # IRIs of remote contexts
         self.aliases = {}       # keywords to aliases
-        self.flattens = 0.12    # how likely the command is `flatten`
+        self.flattens = 0.4     # how likely the command is `flatten`
 
     # Choices.
 

@@ -3,4 +3,3 @@ pub mod Out
 pub mod Lines
 pub mod Stops
 pub mod Promise
-pub mod PlainPair

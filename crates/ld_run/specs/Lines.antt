@@ -4,11 +4,11 @@ use Rattle.std.specs.Fmt.{decimal}
 use Rattle.case_tables.specs.Code.{code_name}
 use Rattle.ld_json.specs.Pointer.{pointer}
 use Rattle.ld_run.specs.declared.status.Refusal.{Refusal}
-use Rattle.ld_run.specs.declared.status.Refusal.TheVariants.{IndexLine, Missing, Syntax, Number, VersionNumber, Expansion, NotBuilt}
+use Rattle.ld_run.specs.declared.status.Refusal.TheVariants.{IndexLine, Missing, Syntax, Number, VersionNumber, Expansion, ConflictingIndexes}
 use Rattle.ld_run.specs.declared.status.Status.{Status}
 use Rattle.ld_run.specs.declared.status.Status.TheVariants.{Done, Refused, Usage, ReadFault, FolderFault, WriteFault, TooLarge, OutOfMemory}
 
--- The line of a refusal: a number by its byte, an error by its code, a place by its pointer.
+-- The line of a refusal: a number by its byte, an error by its code, a place by its pointer, a node by its id.
 abbrev pub refusal_line : Refusal → List ℕ
 refusal_line (IndexLine line) = codes "error: context index line " ++ (decimal line ++ 10 ∷ [])
 refusal_line (Missing line) = codes "error: missing context file at index line " ++ (decimal line ++ 10 ∷ [])
@@ -16,7 +16,7 @@ refusal_line Syntax = codes "error: syntax\n"
 refusal_line (Number at) = codes "error: number at byte " ++ (decimal at ++ 10 ∷ [])
 refusal_line (VersionNumber place) = codes "error: version number at " ++ (pointer place ++ 10 ∷ [])
 refusal_line (Expansion code place) = codes "error: " ++ (code_name code ++ (codes " at " ++ (pointer place ++ 10 ∷ [])))
-refusal_line NotBuilt = codes "error: not built\n"
+refusal_line (ConflictingIndexes node first second) = codes "error: conflicting indexes at " ++ (node ++ 10 ∷ [])
 
 -- The line on the error output.
 abbrev pub line_of : Status → List ℕ

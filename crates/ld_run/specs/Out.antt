@@ -4,16 +4,16 @@ use Rattle.std.specs.Option.{option_map, option_map_or, option_and_then}
 use Rattle.ld_io.specs.declared.whole.TheConstants.{LIMIT}
 use Rattle.ld_model.specs.Tree.{Tree, array, trees_of}
 use Rattle.ld_model.specs.CompactText.{compact}
-use Rattle.ld_model.specs.Plain.{are_plain_items}
-use Rattle.ld_model.specs.NodeMap.{generate}
 use Rattle.ld_model.specs.Flatten.{flatten}
+use Rattle.node_model.specs.NodeMap.{Conflict}
+use Rattle.node_model.specs.Generating.{Generated, generate}
 use Rattle.ld_json.specs.Read.{Reading, reads, no_json, number_at, version_at, reading}
 use Rattle.ctx_store.specs.Stored.{Files, Contexts, Stored, holds, index_line, missing, stored}
 use Rattle.expand_model.specs.Scope.{Fault}
 use Rattle.expand_model.specs.Rules.{◌>>=◌}
 use Rattle.expand_model.specs.Expand.{document}
 use Rattle.ld_run.specs.declared.status.Refusal.{Refusal}
-use Rattle.ld_run.specs.declared.status.Refusal.TheVariants.{IndexLine, Missing, Syntax, Number, VersionNumber, Expansion, NotBuilt}
+use Rattle.ld_run.specs.declared.status.Refusal.TheVariants.{IndexLine, Missing, Syntax, Number, VersionNumber, Expansion, ConflictingIndexes}
 use Rattle.ld_run.specs.declared.words.Command.{Command}
 use Rattle.ld_run.specs.declared.words.Command.TheVariants.{Flatten, Expand}
 use Rattle.ld_run.specs.declared.words.Order.{Order}
@@ -44,9 +44,16 @@ expanded base cs input = do
   t ← parsed (reading input)
   as_refusal (document (record { base = base; contexts = cs }) t)
 
--- The flattened form of expanded items (JSON-LD 1.1 API, section 7.1). [Ours: items that aren't plain are refused so far.]
+-- The node map of expanded items (section 7.2), or the first two different indexes of a node.
+abbrev pub node_map_or_refusal : Result Generated Conflict → Result Generated Refusal
+node_map_or_refusal (Ok m) = Ok m
+node_map_or_refusal (Err c) = Err (ConflictingIndexes c.node c.first c.second)
+
+-- The flattened form of expanded items (section 7.1).
 abbrev pub flattened : List Tree → Result (List Tree) Refusal
-flattened ts = if are_plain_items ts then Ok (flatten (generate ts).graphs) else Err NotBuilt
+flattened ts = do
+  m ← node_map_or_refusal (generate ts)
+  Ok (flatten m.graphs)
 
 -- What a command gives of expanded items.
 abbrev pub given : Command → List Tree → Result (List Tree) Refusal

@@ -10,6 +10,8 @@ use Rattle.ctx_store.specs.declared.store.StoreRefusal.{StoreRefusal}
 use Rattle.ctx_store.specs.declared.store.StoreRefusal.TheVariants as store
 use Rattle.tree_expand.specs.declared.stop.ExpandStop.{ExpandStop}
 use Rattle.tree_expand.specs.declared.stop.ExpandStop.TheVariants as expand
+use Rattle.node_ops.specs.declared.generation.MapStop.{MapStop}
+use Rattle.node_ops.specs.declared.generation.MapStop.TheVariants as map
 use Rattle.ld_run.specs.declared.status.Refusal.{Refusal}
 use Rattle.ld_run.specs.declared.status.Refusal.TheVariants as refusal
 use Rattle.ld_run.specs.declared.status.Status.{Status}
@@ -51,6 +53,11 @@ stop_of_refusal text.OutOfMemory = OutOfMemory
 abbrev pub stop_of_expansion : ExpandStop → Stop
 stop_of_expansion (expand.Refused code place) = Refused (refusal.Expansion code place)
 stop_of_expansion expand.OutOfMemory = OutOfMemory
+
+-- What a stop of node map generation is to the call.
+abbrev pub stop_of_map : MapStop → Stop
+stop_of_map (map.Conflict c) = Refused (refusal.ConflictingIndexes c.node c.first c.second)
+stop_of_map map.OutOfMemory = OutOfMemory
 
 -- When a stage of the work stops so.
 abbrev pub IsStopOf : {X : Type 0} → Stop → Result X Refusal → Type 0

@@ -5,7 +5,6 @@
 #![tactic(auto)]
 
 mod document;
-mod plain;
 mod run;
 mod saying;
 mod status;

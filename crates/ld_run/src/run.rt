@@ -43,7 +43,7 @@ use std::alloc::Global;
 /// - `Refused(VersionNumber { place })` where all are, but the number 1.1 stands elsewhere than as the value of a key
 ///   `@version`; `place` is the first such place.
 /// - `Refused(Expansion { code, place })` where it reads, but can't be expanded: the first error that the traversal meets.
-/// - `Refused(NotBuilt)` for `flatten`, where it is expanded, but isn't plain.
+/// - `Refused(ConflictingIndexes { node, first, second })` for `flatten`, where it is expanded, but states two different indexes of one node.
 /// - `WriteFault` only where the count of faults of `out` or of `err` rose.
 /// - `OutOfMemory` where memory was refused, at any time.
 pub fn run_alone<S: Source, F: Folder, K: Sink, E: Sink>(

@@ -1,6 +1,6 @@
 // Statuses and refusals in words, which are those of their lines.
 use crate::status::{
-    FOLDER_FAULT, NOT_BUILT, OUT_OF_MEMORY, READ_FAULT, Refusal, SYNTAX, Status, TOO_LARGE, USAGE,
+    FOLDER_FAULT, OUT_OF_MEMORY, READ_FAULT, Refusal, SYNTAX, Status, TOO_LARGE, USAGE,
     WRITE_FAULT,
 };
 use std::error::Error;
@@ -36,7 +36,9 @@ impl fmt::Display for Refusal {
             Refusal::Number { at } => write!(f, "number at byte {at}"),
             Refusal::VersionNumber { place } => write!(f, "version number at {place}"),
             Refusal::Expansion { code, place } => write!(f, "{} at {place}", code.name()),
-            Refusal::NotBuilt => f.write_str(words(NOT_BUILT)),
+            Refusal::ConflictingIndexes { node, .. } => {
+                write!(f, "conflicting indexes at {}", node.as_str())
+            }
         }
     }
 }

@@ -4,7 +4,7 @@ ghost use Rattle.std.specs.Cow.{cow_str_bytes};
 ghost use Rattle.ld_run.specs.Lines.{line_of, number_of, refusal_line};
 
 use case_tables::Code;
-use ld_json::{Place, pointer_of};
+use ld_json::{Place, Text, pointer_of};
 use std::alloc::{AllocError, Global};
 use std::borrow::CowStr;
 
@@ -22,8 +22,6 @@ pub(crate) const WRITE_FAULT: &str = "error: write fault\n";
 pub(crate) const TOO_LARGE: &str = "error: input too large\n";
 
 pub(crate) const SYNTAX: &str = "error: syntax\n";
-
-pub(crate) const NOT_BUILT: &str = "error: not built\n";
 
 /// Why an input gives nothing to write. It is printed as its line says it, without `error: ` and the line feed.
 #[derive(Debug, Drop)]
@@ -58,8 +56,15 @@ pub enum Refusal {
         /// The place of that error.
         place: Place,
     },
-    /// The expanded document has what flattening doesn't convert yet: anything that isn't plain.
-    NotBuilt,
+    /// The document is expanded, but states two different indexes of one node (JSON-LD 1.1 API, section 7.2, step 6.8).
+    ConflictingIndexes {
+        /// The node's id; of a blank node, the label that it has in the node map.
+        node: Text,
+        /// The index that was stated first.
+        first: Text,
+        /// The first different one.
+        second: Text,
+    },
 }
 
 /// How a call of the program ended. It is printed as its line says it, without `error: ` and the line feed; `Done` as
@@ -148,7 +153,10 @@ impl Refusal {
                 let line = format!(in alloc; "error: {} at {}\n", code.name(), pointer.as_str())?;
                 Ok(CowStr::Owned(line))
             }
-            Refusal::NotBuilt => Ok(CowStr::Borrowed(NOT_BUILT)),
+            Refusal::ConflictingIndexes { node, .. } => {
+                let line = format!(in alloc; "error: conflicting indexes at {}\n", node.as_str())?;
+                Ok(CowStr::Owned(line))
+            }
         }
     }
 }

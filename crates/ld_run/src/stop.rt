@@ -5,6 +5,7 @@ use crate::status::{Refusal, Status};
 use ctx_store::StoreRefusal;
 use ld_io::ReadStop;
 use ld_json::ReadRefusal;
+use node_ops::MapStop;
 use std::alloc::AllocError;
 use tree_expand::ExpandStop;
 
@@ -103,6 +104,23 @@ impl From<ExpandStop> for Stop {
                 place,
             }),
             ExpandStop::OutOfMemory => Stop::OutOfMemory,
+        }
+    }
+}
+
+impl From<MapStop> for Stop {
+    ghost use Rattle.ld_run.specs.Stops.{stop_of_map};
+
+    ghost from_gives = { λ map stop. stop ≡ stop_of_map map };
+
+    fn from(map: MapStop) -> Stop {
+        match map {
+            MapStop::Conflict(conflict) => Stop::Refused(Refusal::ConflictingIndexes {
+                node: conflict.node,
+                first: conflict.first,
+                second: conflict.second,
+            }),
+            MapStop::OutOfMemory => Stop::OutOfMemory,
         }
     }
 }

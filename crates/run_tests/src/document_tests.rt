@@ -37,7 +37,7 @@ expand < {"@context":"http://e/c","http://e/p":"v"} => error: loading remote con
 expand --base http://e/b/ < {"@id":"a","http://e/p":"v"} => [{"@id":"http://e/b/a","http://e/p":[{"@value":"v"}]}]
 expand --base=http://e/?a=b < {"@id":"","http://e/p":"v"} => [{"@id":"http://e/?a=b","http://e/p":[{"@value":"v"}]}]"#;
 
-// In the same form: what `flatten` gives. An expanded document that isn't plain is refused, but an error of expansion comes first.
+// In the same form: what `flatten` gives. An error of expansion comes before two indexes of a node.
 const FLATTENED: &str =
     r#"flatten < [{"@id":"http://e/a","http://e/p":[{"@value":"v"}]}] => [{"@id":"http://e/a","http://e/p":[{"@value":"v"}]}]
 flatten < {"@id":"http://e/a","http://e/p":"v"} => [{"@id":"http://e/a","http://e/p":[{"@value":"v"}]}]
@@ -46,9 +46,9 @@ flatten < [1] => []
 flatten < null => []
 flatten < {"@context":{"p":"http://e/p"},"@id":"http://e/a","p":["v","w","v"]} => [{"@id":"http://e/a","http://e/p":[{"@value":"v"},{"@value":"w"}]}]
 flatten --base http://e/b/ < {"@id":"a","http://e/p":"v"} => [{"@id":"http://e/b/a","http://e/p":[{"@value":"v"}]}]
-flatten < {"@id":"_:n","@type":"_:t"} => error: not built
-flatten < {"@id":"http://e/a","http://e/p":9007199254740992} => error: not built
-flatten < [{"@id":"http://e/a","@index":"1"},{"@id":"http://e/a","@index":"2"}] => error: not built
+flatten < {"@id":"_:n","@type":"_:t"} => [{"@id":"_:b1","@type":["_:b0"]}]
+flatten < {"@id":"http://e/a","http://e/p":9007199254740992} => [{"@id":"http://e/a","http://e/p":[{"@value":9007199254740992}]}]
+flatten < [{"@id":"http://e/a","@index":"1"},{"@id":"http://e/a","@index":"2"}] => error: conflicting indexes at http://e/a
 flatten < [{"@id":"http://e/a","@index":"1"},{"@id":"http://e/a","@index":"2"},{"@id":5}] => error: invalid @id value at /2/@id
 flatten < [{"@id":5}] => error: invalid @id value at /0/@id"#;
 
