@@ -21,7 +21,9 @@ check() {
 
 check catalogue.jsonld 0 catalogue.flattened.jsonld '' flatten < catalogue.jsonld
 check catalogue.flattened.jsonld 0 catalogue.flattened.jsonld '' flatten < catalogue.flattened.jsonld
-check typed.jsonld 1 /dev/null 'error: not built' flatten < typed.jsonld
+check typed.jsonld 0 typed.flattened.jsonld '' flatten < typed.jsonld
+check archive.jsonld 0 archive.flattened.jsonld '' flatten < archive.jsonld
+check conflict.jsonld 1 /dev/null 'error: conflicting indexes at http://library.example/book/walden' flatten < conflict.jsonld
 if command -v jq > /dev/null; then
   check 'two catalogues' 0 merged.flattened.jsonld '' flatten < <(jq -c -n '[inputs[]]' catalogue.jsonld donation.jsonld)
 else

@@ -1,37 +1,46 @@
-ghost use Rattle.std.specs.Prelude.{◌≡◌, true, IfOk};
-ghost use Rattle.ld_model.specs.Plain.{are_plain_items};
-
-use ld_json::{Members, Text, Tree, Trees, text_of};
-use node_ops::node_map;
+use flatten_out::flatten;
+use ld_json::{Tree, Trees, read_tree, text_of};
+use node_ops::{MapStop, node_map};
 use std::alloc::{AllocError, Global};
 use std::test::Fail;
 
-// A document of one node with a value and a reference.
-fn small_document(alloc: Global) -> Result<Trees, AllocError>
-    ensures { IfOk result (λ items. are_plain_items items ≡ true) }
-{
-    let mut value = Members::new(alloc);
-    value.put(alloc, "@value", Tree::Str(Text::new(alloc, "x")?))?;
-    let mut reference = Members::new(alloc);
-    reference.put(alloc, "@id", Tree::Str(Text::new(alloc, "e:b")?))?;
-    let mut entries = Trees::new(alloc);
-    entries.push(Tree::Map(value))?;
-    entries.push(Tree::Map(reference))?;
-    let mut node = Members::new(alloc);
-    node.put(alloc, "@id", Tree::Str(Text::new(alloc, "e:a")?))?;
-    node.put(alloc, "e:p", Tree::Items(entries))?;
-    let mut items = Trees::new(alloc);
-    items.push(Tree::Map(node))?;
-    Ok(items)
+// A value, a reference, a graph of its own with a list in it, a label used twice and a node without one.
+const DOCUMENT: &str = r#"[{"@id":"e:a","e:p":[{"@value":"x"},{"@id":"e:b"}]},{"@id":"_:x","@graph":[{"e:p":[{"@list":[{"@id":"_:x"}]}]}]}]"#;
+
+const NODE_MAP: &str = r#"{"@default":{"_:b0":{"@id":"_:b0"},"e:a":{"@id":"e:a","e:p":[{"@value":"x"},{"@id":"e:b"}]},"e:b":{"@id":"e:b"}},"_:b0":{"_:b0":{"@id":"_:b0"},"_:b1":{"@id":"_:b1","e:p":[{"@list":[{"@id":"_:b0"}]}]}}}"#;
+
+const FLATTENED: &str = r#"[{"@graph":[{"@id":"_:b1","e:p":[{"@list":[{"@id":"_:b0"}]}]}],"@id":"_:b0"},{"@id":"e:a","e:p":[{"@value":"x"},{"@id":"e:b"}]}]"#;
+
+fn items_of(alloc: Global, text: &str) -> Result<Trees, AllocError> {
+    match read_tree(alloc, text.as_bytes()) {
+        Ok(Tree::Items(items)) => Ok(items),
+        _ => Err(AllocError),
+    }
 }
 
 #[test]
-fn a_node_map_has_one_graph_and_no_labels(rt: HostRuntime) -> Result<(), Fail> {
-    let items = small_document(rt.alloc())?;
+fn a_node_map_has_its_graphs_and_counts_its_labels(rt: HostRuntime) -> Result<(), Fail> {
+    let items = items_of(rt.alloc(), DOCUMENT)?;
     let (map, issued) = node_map(rt.alloc(), &items).map_err(|_| AllocError)?;
+    let flattened = text_of(rt.alloc(), &flatten(rt.alloc(), &map)?)?;
     let text = text_of(rt.alloc(), &Tree::Map(map.graphs))?;
-    let want =
-        r#"{"@default":{"e:a":{"@id":"e:a","e:p":[{"@value":"x"},{"@id":"e:b"}]},"e:b":{"@id":"e:b"}}}"#;
-    assert!(rt; text.as_slice() == want.as_bytes() && issued == 0);
+    assert!(rt; text.as_slice() == NODE_MAP.as_bytes() && issued == 2);
+    assert!(rt; flattened.as_slice() == FLATTENED.as_bytes());
+    Ok(())
+}
+
+#[test]
+fn a_conflict_names_the_node_and_both_indexes(rt: HostRuntime) -> Result<(), Fail> {
+    let items = items_of(
+        rt.alloc(),
+        r#"[{"@id":"_:x","@index":"1"},{"@id":"_:x","@index":"2"},{"@id":"_:x","@index":"3"}]"#,
+    )?;
+    match node_map(rt.alloc(), &items) {
+        Err(MapStop::Conflict(conflict)) => {
+            assert!(rt; conflict.node.as_str() == "_:b0");
+            assert!(rt; conflict.first.as_str() == "1" && conflict.second.as_str() == "2");
+        }
+        _ => assert!(rt; false),
+    }
     Ok(())
 }
