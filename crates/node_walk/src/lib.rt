@@ -4,6 +4,10 @@
 //! used up on the way: what is kept of it is moved.
 #![tactic(auto)]
 
+mod entering;
 mod gathering;
+mod parts;
+mod walking;
 
 pub use gathering::{Gather, To};
+pub use walking::{walk_document, walk_items};
