@@ -8,8 +8,8 @@ Usage: run.py PROGRAM [BYTES ..]       plain documents of about so many bytes (1
        run.py PROGRAM greatest        two documents of 256 MiB, the greatest that is read: the usual one, and one of small objects
 
 PROGRAM is for instance crates/jsonld_flat/out/jsonld_flat. Prints one table: bytes, processor time, peak memory, memory for each
-byte of input, jq's processor time and peak, and the ratios of both. jq is left out where it isn't installed. A shape that is refused
-(`error: not built`) is read all the same. A peak below some 20 MB is that of this script, from which the program is started.
+byte of input, jq's processor time and peak, and the ratios of both. jq is left out where it isn't installed. A peak below some 20 MB is that of this script, from which
+the program is started.
 """
 import os
 import platform
@@ -27,15 +27,15 @@ import shapes  # noqa: E402
 GREATEST = 268_435_456
 
 
-def measure(command, path, statuses=(0,)):
-    """Wall seconds, processor seconds and peak bytes of a command that reads a file and ends with one of these statuses."""
+def measure(command, path):
+    """Wall seconds, processor seconds and peak bytes of a command that reads a file."""
     with open(path, "rb") as source, open(os.devnull, "wb") as out:
         start = time.perf_counter()
         child = subprocess.Popen(command, stdin=source, stdout=out, stderr=out)
         _, status, usage = os.wait4(child.pid, 0)
         wall = time.perf_counter() - start
         child.returncode = os.waitstatus_to_exitcode(status)
-    if child.returncode not in statuses:
+    if child.returncode != 0:
         raise SystemExit("%s ended with %d" % (command[0], child.returncode))
     return wall, usage.ru_utime + usage.ru_stime, usage.ru_maxrss * 1024
 
@@ -56,9 +56,9 @@ def head():
     print("%-24s %11s %8s %9s %8s %8s %9s %7s %7s" % ("document", "bytes", "cpu s", "peak MB", "B/byte", "jq s", "jq MB", "time", "memory"))
 
 
-def row(program, name, path, statuses=(0,), words=("flatten",)):
+def row(program, name, path, words=("flatten",)):
     length = os.path.getsize(path)
-    _, cpu, peak = measure([program, *words], path, statuses)
+    _, cpu, peak = measure([program, *words], path)
     line = "%-24s %11d %8.3f %9.1f %8.1f" % (name, length, cpu, peak / 1e6, peak / length)
     jq = shutil.which("jq")
     if jq:
@@ -100,9 +100,9 @@ def each_context(program, path, counts):
 def each_shape(program, path, counts):
     for shape in shapes.SHAPES:
         for count in counts:
-            # in a process of its own, so that this one stays small; arrays a hundred deep are wide enough as they are
-            written(path, "shapes.py", shape, count // 20 if shape == "deep" else count)
-            row(program, "%s %d" % (shape, count), path, (0,) if shape in shapes.PLAIN else (1,))
+            # in a process of its own, so that this one stays small; what is nested deep is wide enough as it is
+            written(path, "shapes.py", shape, count // 20 if shape in ("deep", "nested_lists") else count)
+            row(program, "%s %d" % (shape, count), path)
 
 
 def greatest(program, path):
@@ -114,7 +114,7 @@ def greatest(program, path):
         for _ in range((GREATEST - 8) // (len(small) + 1) // 1000 - 1):
             out.write((",%s" % small) * 1000)
         out.write("]")
-    row(program, "empty_keys", path, (1,))
+    row(program, "empty_keys", path)
 
 
 def main():

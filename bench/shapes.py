@@ -1,5 +1,5 @@
 #!/usr/bin/env python3
-"""Writes a JSON document of one shape: shapes.py SHAPE COUNT. `SHAPES` says of each what it has; all but the last five are plain."""
+"""Writes a JSON document of one shape: shapes.py SHAPE COUNT. `SHAPES` says of each what it has."""
 import random
 import sys
 
@@ -24,8 +24,21 @@ SHAPES = {
     "deep": "COUNT arrays inside one another, a hundred deep each",
     "wide_map": "one object with COUNT keys in no order",
     "thousand_keys": "one object in which COUNT members share 1,000 keys",
+    "numbers": "one item with COUNT different numbers under one property",
+    "tagged": "one item with COUNT texts in languages under one property",
+    "typed": "one item with COUNT typed values under one property",
+    "types": "one item with COUNT different types",
+    "labels": "COUNT items that refer to one another by labels of blank nodes",
+    "unnamed": "COUNT items without an id, each inside a property of one without an id",
+    "graphs": "COUNT graphs of one node each, descending",
+    "one_graph": "COUNT items that each state one node of one graph",
+    "reversed": "one node to which COUNT nodes point by a reverse property",
+    "included": "one block of COUNT included nodes",
+    "list": "one list of COUNT items",
+    "lists": "COUNT lists under one property, all equal",
+    "nested_lists": "COUNT lists nested sixty deep",
+    "peers": "COUNT records under a vocabulary, with numbers, lists and nodes without an id",
 }
-PLAIN = list(SHAPES)[:-5]
 ONE = '"@id":"http://g/one"'
 
 
@@ -74,6 +87,20 @@ def rows(shape, count):
         "small_lists": lambda: ['[{"a":1},[],{"b":[0]}]'] * count,
         "deep": lambda: ["[" * 100 + "]" * 100] * count,
         "wide_map": lambda: ["{%s}" % ",".join('"k%07d":0' % i for i in shuffled(numbers))],
+        "numbers": lambda: [item(map(str, numbers))],
+        "tagged": lambda: [item('{"@value":"v%d","@language":"en"}' % i for i in numbers)],
+        "typed": lambda: [item('{"@value":"v%d","@type":"http://g/T"}' % i for i in numbers)],
+        "types": lambda: ['{%s,"@type":[%s]}' % (ONE, ",".join('"http://g/T%d"' % i for i in shuffled(numbers)))],
+        "labels": lambda: ['{"@id":"_:n%d","http://g/v#p":{"@id":"_:n%d"}}' % (i, (i * 7 + 1) % count) for i in numbers],
+        "unnamed": lambda: ['{"http://g/v#p":{"http://g/v#q":"v%d"}}' % i for i in numbers],
+        "graphs": lambda: ['{"@id":"http://g/g%07d","@graph":{%s,"http://g/v#p":"v"}}' % (count - i, ONE) for i in numbers],
+        "one_graph": lambda: ['{"@id":"http://g/g","@graph":{"@id":"http://g/n%d","http://g/v#p":"v"}}' % i for i in numbers],
+        "reversed": lambda: ['{%s,"@reverse":{"http://g/v#p":[%s]}}' % (ONE, ",".join(map(reference, shuffled(numbers))))],
+        "included": lambda: ['{"@included":[%s]}' % ",".join('{"@id":"http://g/n%d","http://g/v#p":"v"}' % i for i in numbers)],
+        "list": lambda: [item(['{"@list":[%s]}' % ",".join(map(reference, numbers))])],
+        "lists": lambda: [item(['{"@list":["v"]}'] * count)],
+        "nested_lists": lambda: [item(['{"@list":[' * 60 + '"v"' + ']}' * 60]) for _ in numbers],
+        "peers": lambda: ['{"@context":{"@vocab":"http://g/v#"},"name":"n%d","size":%d,"parts":{"@list":[%d,"x",true]},"maker":{"name":"m%d","age":%d}}' % (i, i, i, i % 100, i % 90) for i in numbers],
         "thousand_keys": lambda: ["{%s}" % ",".join('"k%03d":%d' % (i % 1000, i) for i in shuffled(numbers))],
     }
     if shape not in some:
