@@ -8,7 +8,7 @@ use Rattle.ld_model.proofs.Puts.{bytes_eq-sym, at_first, at_later}
 use Rattle.ctx_types.specs.Expansion.{is_keyword}
 use Rattle.node_model.specs.Keys.{type_key, list_key, index_key, reverse_key, included_key}
 use Rattle.node_model.specs.Walk.{Steps, To, nowhere, in_list, At, text_in, takes_values, entered, value_into, list_held, with_graph, walk, walk_at, walk_reverse, walk_reverse_map, walk_reverse_properties, walk_properties}
-use Rattle.node_walk.specs.Found.{IsLeft, members_in, properties_in, entered_by, found_into, inside_by, inside, map_into, property_into}
+use Rattle.node_walk.specs.Found.{IsLeft, members_in, properties_in, entered_by, found_into, graph_made, inside_by, inside, node_object, map_into, property_into}
 
 module _ {S N E : Type 0} (p : Steps S N E) where
   at_is : (g : N) (to : To N) (key : List ℕ) (ms : Members) (w : At S E) → walk_at p g to key ms w ≡ found_into p g to (member_at key (member_list ms)) w
@@ -74,8 +74,9 @@ module _ {S N E : Type 0} (p : Steps S N E) where
       else if is_some (member_at list_key (member_list ms)) then (if takes_values to then list_held p g to w (list i) else w)
       else parts i
 
-  pub map_is : (g : N) (to : To N) (ms : Pairs) (w : At S E) → walk p g to (object (members_of ms)) w ≡ map_into p g to ms w
-  map_is g to ms w = object_is g to (members_of ms) w ∙ ap (map_by g to (members_of ms) w) (member_list-members_of ms)
+  pub map_walked : (g : N) (to : To N) (t : Tree) (ms : Pairs) (w last : At S E) → t ≡ object (members_of ms) → last ≡ map_into p g to ms w → last ≡ walk p g to t w
+  map_walked g to t ms w last is is_last =
+      is_last ∙ sym (ap (λ t. walk p g to t w) is ∙ object_is g to (members_of ms) w ∙ ap (map_by g to (members_of ms) w) (member_list-members_of ms))
 
   -- Keywords among the properties make no difference.
   properties_are : (g id : N) (ms : Pairs) (w : At S E) → walk_properties p g id (members_of (properties_in ms)) w ≡ walk_properties p g id (members_of ms) w
@@ -93,7 +94,7 @@ module _ {S N E : Type 0} (p : Steps S N E) where
       sym (properties_are g id left w) ∙ ap (λ ms. walk_properties p g id (members_of ms) w) same ∙ properties_are g id all w
 
   -- What stands in a node object, where its parts were taken after its types, its id and its index.
-  pub inside_left : (g id : N) (all left rest : Pairs) (turned : Members) (inner included : Option Tree) (w : At S E)
+  inside_left : (g id : N) (all left rest : Pairs) (turned : Members) (inner included : Option Tree) (w : At S E)
       → IsLeft (index_key ∷ id_key ∷ type_key ∷ []) all left
       → turned ≡ members_in (member_at reverse_key left) → inner ≡ member_at graph_key left → included ≡ member_at included_key left
       → properties_in rest ≡ properties_in left
@@ -102,3 +103,39 @@ module _ {S N E : Type 0} (p : Steps S N E) where
       same_properties g id rest all _ (same ∙ so.properties)
       ∙ (λ i. inside_by p g id
       ((is_turned ∙ ap members_in (so.others reverse_key refl)) i) ((is_inner ∙ so.others graph_key refl) i) ((is_included ∙ so.others included_key refl) i) (members_of all) w)
+
+  -- What stands in a node object is walked in this order: what `@reverse` has, then what `@graph` has, in the graph that is made
+  -- first, then what `@included` has, and the properties last.
+  inside_walked : (g id : N) (turned : Members) (inner included : Option Tree) (rest : Pairs) (entered reversed graph around last : At S E) (made : S)
+      → reversed ≡ walk_reverse_properties p g id turned entered
+      → made ≡ graph_made p id inner reversed.state
+      → graph ≡ found_into p id nowhere inner (record { state = made; items = reversed.items })
+      → around ≡ found_into p g nowhere included graph
+      → last ≡ walk_properties p g id (members_of rest) around
+      → last ≡ inside_by p g id turned inner included (members_of rest) entered
+  inside_walked g id turned inner included rest entered reversed graph around last made is_reversed is_made is_graph is_around is_last =
+      is_last
+      ∙ ap (walk_properties p g id (members_of rest))
+      (is_around
+      ∙ ap (found_into p g nowhere included)
+      (is_graph
+      ∙ (λ i. found_into p id nowhere inner (record { state = (is_made ∙ ap (λ (w : At S E). graph_made p id inner w.state) is_reversed) i; items = (is_reversed i).items }))))
+
+  -- A node object is entered by its types, its id and its index, and then what stands in it is walked.
+  pub node_walked : (g id : N) (to : To N) (all left rest : Pairs) (types inner included : Option Tree) (name index : Option (List ℕ)) (turned : Members) (w entered reversed graph around last : At S E) (made : S)
+      → types ≡ member_at type_key all → name ≡ text_in (member_at id_key all) → index ≡ text_in (member_at index_key all)
+      → IsLeft (index_key ∷ id_key ∷ type_key ∷ []) all left
+      → turned ≡ members_in (member_at reverse_key left) → inner ≡ member_at graph_key left → included ≡ member_at included_key left
+      → properties_in rest ≡ properties_in left
+      → (id, entered) ≡ entered_by p g to types name index w
+      → reversed ≡ walk_reverse_properties p g id turned entered
+      → made ≡ graph_made p id inner reversed.state
+      → graph ≡ found_into p id nowhere inner (record { state = made; items = reversed.items })
+      → around ≡ found_into p g nowhere included graph
+      → last ≡ walk_properties p g id (members_of rest) around
+      → last ≡ node_object p g to all w
+  node_walked g id to all left rest types inner included name index turned w entered reversed graph around last made
+      is_types is_name is_index so is_turned is_inner is_included same is_entered is_reversed is_made is_graph is_around is_last =
+      inside_walked g id turned inner included rest entered reversed graph around last made is_reversed is_made is_graph is_around is_last
+      ∙ inside_left g id all left rest turned inner included entered so is_turned is_inner is_included same
+      ∙ ap (λ (n : N × At S E). inside p g n.0 all n.1) (is_entered ∙ (λ i. entered_by p g to (is_types i) (is_name i) (is_index i) w))
