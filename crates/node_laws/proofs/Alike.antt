@@ -1,13 +1,13 @@
 -- Steps that answer alike make walks that end alike: one induction over the document for whatever is said of a walk. An invariant
 -- is the case where one of the two does nothing (`Idle.antt`).
-use Rattle.std.proofs.Common.{◌≡◌, refl, ℕ, List, [], ◌∷◌, ◌++◌, Bool, true, false, Option, Some, None, if◌then◌else◌}
+use Rattle.std.proofs.Common.{refl, ℕ, List, [], ◌∷◌, Bool, true, false, Option, Some, None, if◌then◌else◌}
 use Rattle.std.specs.Str.{bytes_eq}
 use Rattle.ld_model.specs.Tree.{Tree, Trees, Members, null, truth, whole, one_one, text, array, object, no_trees, tree, no_members, member}
 use Rattle.ld_model.specs.Keys.{id_key, value_key, graph_key}
 use Rattle.ctx_types.specs.Expansion.{is_keyword}
 use Rattle.node_model.specs.Keys.{list_key, index_key, reverse_key, included_key}
-use Rattle.node_model.specs.Walk.{Steps, To, nowhere, under, in_list, reverse, At, has_key, text_at, types_in, takes_values, value_into, list_into, node_into, types_into, index_into, names, entered, with_graph, held, list_held, walk, walk_all, walk_at, walk_reverse, walk_reverse_map, walk_reverse_properties, walk_properties}
-use Rattle.node_laws.proofs.Likeness.{Likeness, Pairwise, pairwise_to, Lasts, Reach, Beside, Toward, AnswerAlike, lasts_here, lasts_on, reach_on, toward_on, beside_from, beside_now, beside_step, beside_entry, beside_empty, beside_by, beside_taken}
+use Rattle.node_model.specs.Walk.{Steps, To, nowhere, under, in_list, reverse, At, has_key, text_at, types_in, value_into, node_into, types_into, index_into, names, entered, with_graph, list_held, walk, walk_all, walk_at, walk_reverse, walk_reverse_map, walk_reverse_properties, walk_properties}
+use Rattle.node_laws.proofs.Likeness.{Likeness, Pairwise, pairwise_to, Reach, Beside, Toward, AnswerAlike, lasts_here, reach_on, toward_on, beside_from, beside_now, beside_step, beside_entry, beside_empty, beside_by, beside_taken}
 
 module _ {S N E T M F : Type 0} (R : Likeness S N E T M F) (a : Steps S N E) (b : Steps T M F) (alike : AnswerAlike R a b) where
   value_beside : (g : N) (h : M) (i : To N) (j : To M) (e : E) (f : F) (s : S) (w : At S E) (v : At T F) → R.names s g h → Toward R s i j → R.entries w.state e f → Beside R s w v → Beside R s (value_into a g i e w) (value_into b h j f v)

@@ -1,2 +1,6 @@
 pub mod Likeness
 pub mod Alike
+pub mod Idle
+pub mod Maps
+pub mod Shape
+pub mod DueForm

@@ -1,5 +1,5 @@
 -- What it is for two records of steps to answer alike.
-use Rattle.std.proofs.Common.{◌≡◌, refl, ℕ, List, [], ◌∷◌, ◌++◌, Bool, true, false, Option, if◌then◌else◌}
+use Rattle.std.proofs.Common.{◌≡◌, ℕ, List, [], ◌∷◌, ◌++◌, Bool, true, false, Option, if◌then◌else◌}
 use Rattle.std.specs.Prelude.{⊤}
 use Rattle.ld_model.specs.Tree.{Members, object}
 use Rattle.ld_model.specs.Keys.{value_key}

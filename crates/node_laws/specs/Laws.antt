@@ -1,0 +1,22 @@
+-- The laws of node map generation.
+use Rattle.std.specs.Prelude.{ℕ, ◌≡◌, List, true, Some, Ok}
+use Rattle.std.specs.List.{AllByRecursion}
+use Rattle.ld_model.specs.Tree.{Tree, text, object, member_list, member_at, AreAscending}
+use Rattle.ld_model.specs.Keys.{id_key}
+use Rattle.node_model.specs.DueForm.{has_due_form}
+use Rattle.node_model.specs.Generating.{Generated, generate}
+
+-- A node stands at its own id, and its members ascend by their keys.
+abbrev pub IsNodeInOrder : List ℕ × Tree → Type 0
+IsNodeInOrder (id, object ms) = AreAscending (member_list ms) × (member_at id_key (member_list ms) ≡ Some (text id))
+IsNodeInOrder _ = ⊥
+
+-- The nodes of a graph ascend by their ids.
+abbrev pub IsGraphInOrder : List ℕ × Tree → Type 0
+IsGraphInOrder (name, object nodes) = AreAscending (member_list nodes) × AllByRecursion IsNodeInOrder (member_list nodes)
+IsGraphInOrder _ = ⊥
+
+-- Whatever the document is, its node map has the due form; graphs ascend by their names, and so do nodes by their ids and members by
+-- their keys.
+abbrev pub NodeMapsHaveTheDueForm : Type 0
+NodeMapsHaveTheDueForm = (ts : List Tree) (m : Generated) → generate ts ≡ Ok m → (has_due_form m.graphs ≡ true) × AreAscending m.graphs × AllByRecursion IsGraphInOrder m.graphs
