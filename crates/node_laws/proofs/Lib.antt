@@ -4,3 +4,5 @@ pub mod Idle
 pub mod Maps
 pub mod Shape
 pub mod DueForm
+pub mod Labels
+pub mod Conflicts
