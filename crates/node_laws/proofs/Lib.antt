@@ -6,3 +6,8 @@ pub mod Shape
 pub mod DueForm
 pub mod Labels
 pub mod Conflicts
+pub mod OnceBy
+pub mod Changes
+pub mod SaidOfNode
+pub mod ReadOut
+pub mod Stated

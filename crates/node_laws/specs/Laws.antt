@@ -6,6 +6,7 @@ use Rattle.ld_model.specs.Keys.{id_key}
 use Rattle.node_model.specs.DueForm.{has_due_form}
 use Rattle.node_model.specs.NodeMap.{Conflict}
 use Rattle.node_model.specs.Generating.{Generated, generate, walked}
+use Rattle.node_laws.specs.Stated.{stated_in, IsAsStated}
 use Rattle.node_laws.specs.Uses.{uses_in, AreNumbered}
 
 -- A node stands at its own id, and its members ascend by their keys.
@@ -30,3 +31,7 @@ LabelsAreIssuedInOrder = (ts : List Tree) → AreNumbered (uses_in ts) (walked t
 -- What comes after the first conflict doesn't change it.
 abbrev pub TheFirstConflictStays : Type 0
 TheFirstConflictStays = (ts us : List Tree) (c : Conflict) → generate ts ≡ Err c → generate (ts ++ us) ≡ Err c
+
+-- Whatever the document is, its node map has what is stated in it, and nothing else.
+abbrev pub NodeMapsAreAsStated : Type 0
+NodeMapsAreAsStated = (ts : List Tree) (m : Generated) → generate ts ≡ Ok m → IsAsStated (stated_in ts) m.graphs

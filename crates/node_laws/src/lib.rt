@@ -4,7 +4,7 @@
 //! `proofs/Alike.antt` serves whoever walks a document with other steps: steps that answer alike make walks that end alike.
 #![tactic(auto)]
 
-ghost use Rattle.node_laws.specs.Laws.{LabelsAreIssuedInOrder, NodeMapsHaveTheDueForm, TheFirstConflictStays};
+ghost use Rattle.node_laws.specs.Laws.{LabelsAreIssuedInOrder, NodeMapsAreAsStated, NodeMapsHaveTheDueForm, TheFirstConflictStays};
 
 /// The node map of any list of trees, where there is no conflict of indexes, has the due form (JSON-LD 1.1 API, section 7.2): the
 /// default graph is there, each graph is a map from ids to nodes, and each node a map with its id, perhaps an index and types, and for
@@ -28,4 +28,14 @@ pub fn labels_are_issued_in_order()
 /// step 6.8), whatever items come after it. So code may stop there.
 pub fn the_first_conflict_stays()
     ensures { TheFirstConflictStays }
+{}
+
+/// A node map has what the document states, and nothing else. Its graphs are the default graph and those that are stated; the nodes of a
+/// graph are those of which something is said there. Each node has the types that are said of it, once each, its first index, and the
+/// properties that are said of it. Under a property stand its values and references, once each and where they are stated first, and its
+/// lists, each of them, in the order of the walk.
+///
+/// Statements are collected by a walk of their own, which names blank nodes as generation does and looks nothing up but labels.
+pub fn node_maps_are_as_stated()
+    ensures { NodeMapsAreAsStated }
 {}
