@@ -11,3 +11,6 @@ pub mod Changes
 pub mod SaidOfNode
 pub mod ReadOut
 pub mod Stated
+pub mod PlainMap
+pub mod PlainKeys
+pub mod PlainDocuments

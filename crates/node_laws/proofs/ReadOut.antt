@@ -3,11 +3,9 @@ use Rattle.std.proofs.Common.{◌≡◌, ℕ, List, [], ◌∷◌, Bool, true, f
 use Rattle.std.specs.Prelude.{map as each}
 use Rattle.std.specs.Option.{option_map}
 use Rattle.std.specs.Str.{bytes_eq}
-use Rattle.std.specs.List.{AllByRecursion}
-use Rattle.std.specs.Map.{keys_of}
-use Rattle.ld_model.specs.Tree.{Tree, Pairs, text, array, object, trees_of, tree_list-trees_of, members_of, member_list-members_of, member_at, put, IsBefore}
+use Rattle.ld_model.specs.Tree.{Tree, Pairs, text, array, object, trees_of, tree_list-trees_of, members_of, member_list-members_of, member_at, put}
 use Rattle.ld_model.specs.Keys.{id_key}
-use Rattle.ld_model.proofs.Puts.{bytes_eq-exact, bytes_eq-sym, apart_before, member_at-put, member_at-put_other, at_later as member_later}
+use Rattle.ld_model.proofs.Puts.{bytes_eq-exact, bytes_eq-sym, member_at-put, member_at-put_other, at_later as member_later}
 use Rattle.ctx_types.specs.Expansion.{is_keyword}
 use Rattle.node_model.specs.Keys.{type_key, index_key}
 use Rattle.node_model.specs.Maps.{MapOf, at}
@@ -15,14 +13,9 @@ use Rattle.node_model.specs.NodeMap.{Node, Graph, Graphs, graph_or_new, graph_in
 use Rattle.node_model.specs.AsTrees.{index_put, types_put, properties_put, node_members, node_pair, graph_pairs}
 use Rattle.node_model.specs.Walk.{texts_in, texts_of}
 use Rattle.node_laws.specs.Stated.{object_in, array_in}
-use Rattle.node_laws.proofs.Maps.{Ascend, at_first, at_later, all-at, ascend_head, ascend_tail, member_at-as_members}
+use Rattle.node_laws.proofs.Maps.{Ascend, at_first, at_later, all-at, none_before, ascend_head, ascend_tail, member_at-as_members}
 use Rattle.node_laws.proofs.Shape.{IsProperty, IsNode}
 use Rattle.node_laws.proofs.DueForm.{keyword_apart}
-
--- Nothing stands at a key before all others.
-pub none_before : {V : Type 0} (k : List ℕ) (m : MapOf V) → AllByRecursion (IsBefore k) (keys_of m) → at k m ≡ None
-none_before k [] all = refl
-none_before k (e ∷ m) all = at_later k e m (apart_before k e.0 all.0) ∙ none_before k m all.1
 
 abbrev pub listed : List Tree → Tree
 listed es = array (trees_of es)

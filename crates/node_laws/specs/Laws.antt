@@ -3,6 +3,8 @@ use Rattle.std.specs.Prelude.{◌++◌, Err, length, ℕ, ◌≡◌, List, true,
 use Rattle.std.specs.List.{AllByRecursion}
 use Rattle.ld_model.specs.Tree.{Tree, text, object, member_list, member_at, AreAscending}
 use Rattle.ld_model.specs.Keys.{id_key}
+use Rattle.ld_model.specs.NodeMap as plain
+use Rattle.ld_model.specs.Plain.{are_plain_items}
 use Rattle.node_model.specs.DueForm.{has_due_form}
 use Rattle.node_model.specs.NodeMap.{Conflict}
 use Rattle.node_model.specs.Generating.{Generated, generate, walked}
@@ -35,3 +37,7 @@ TheFirstConflictStays = (ts us : List Tree) (c : Conflict) → generate ts ≡ E
 -- Whatever the document is, its node map has what is stated in it, and nothing else.
 abbrev pub NodeMapsAreAsStated : Type 0
 NodeMapsAreAsStated = (ts : List Tree) (m : Generated) → generate ts ≡ Ok m → IsAsStated (stated_in ts) m.graphs
+
+-- For a plain document generation gives what its definition for plain documents gives.
+abbrev pub PlainDocumentsAreACase : Type 0
+PlainDocumentsAreACase = (ts : List Tree) → are_plain_items ts ≡ true → generate ts ≡ Ok (record { graphs = (plain.generate ts).graphs; issued = (plain.generate ts).issued })

@@ -4,7 +4,7 @@
 //! `proofs/Alike.antt` serves whoever walks a document with other steps: steps that answer alike make walks that end alike.
 #![tactic(auto)]
 
-ghost use Rattle.node_laws.specs.Laws.{LabelsAreIssuedInOrder, NodeMapsAreAsStated, NodeMapsHaveTheDueForm, TheFirstConflictStays};
+ghost use Rattle.node_laws.specs.Laws.{LabelsAreIssuedInOrder, NodeMapsAreAsStated, NodeMapsHaveTheDueForm, PlainDocumentsAreACase, TheFirstConflictStays};
 
 /// The node map of any list of trees, where there is no conflict of indexes, has the due form (JSON-LD 1.1 API, section 7.2): the
 /// default graph is there, each graph is a map from ids to nodes, and each node a map with its id, perhaps an index and types, and for
@@ -38,4 +38,11 @@ pub fn the_first_conflict_stays()
 /// Statements are collected by a walk of their own, which names blank nodes as generation does and looks nothing up but labels.
 pub fn node_maps_are_as_stated()
     ensures { NodeMapsAreAsStated }
+{}
+
+/// For a plain document, whose items are node objects with an id and with texts and references under their properties, generation gives
+/// what `ld_model` defines for plain documents alone: there is no conflict, and the node map and the count of labels are the same. So the
+/// laws of `flatten_laws` on plain documents hold of generation as it is defined for every document.
+pub fn plain_documents_are_a_case()
+    ensures { PlainDocumentsAreACase }
 {}
