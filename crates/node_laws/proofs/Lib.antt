@@ -1,6 +1,7 @@
 pub mod Likeness
 pub mod Alike
 pub mod Idle
+pub mod Lists
 pub mod Maps
 pub mod Shape
 pub mod DueForm
@@ -14,3 +15,4 @@ pub mod Stated
 pub mod PlainMap
 pub mod PlainKeys
 pub mod PlainDocuments
+pub mod Issued

@@ -15,6 +15,7 @@ use Rattle.node_model.specs.NodeMap.{Node, Graph, Graphs, new_node, node_or_new,
 use Rattle.node_model.specs.Generating.{State, generating, index_by, empty, walked}
 use Rattle.node_model.specs.DueForm.{is_entry, are_entries}
 use Rattle.node_model.specs.Walk.{nowhere}
+use Rattle.node_laws.proofs.Lists.{all_last}
 use Rattle.node_laws.proofs.Maps.{Ascend, at-with_at, at-with_at_other, all-with_at, all-at, ascend_none, ascend_cons, ascend-with_at}
 use Rattle.node_laws.proofs.Likeness.{Likeness, Pairwise, Reach, AnswerAlike, lasts_here}
 use Rattle.node_laws.proofs.Alike.{all_beside}
@@ -95,18 +96,14 @@ on_entries_is property change apart keeps n node = record {
   each = all-with_at IsProperty property (change (entries_in property n.properties)) n.properties (apart, keeps (entries_in property n.properties) (entries_in_are property n.properties node.each)) node.each;
 }
 
-last_is : (e : Tree) (es : List Tree) → is_entry e ≡ true → AreEntries es → AreEntries (es ++ e ∷ [])
-last_is e [] is all = (is, tt)
-last_is e (x ∷ es) is all = (all.0, last_is e es is all.1)
-
 pub told_is : (e : Tree) → is_entry e ≡ true → (es : List Tree) → AreEntries es → AreEntries (told e es)
 unfolding added
 told_is e is es all = by_tests (is_list_object e) (list_any (same_tree e) es)
   where
     by_tests : (b c : Bool) → AreEntries (cond b (es ++ e ∷ []) (cond c es (es ++ e ∷ [])))
-    by_tests true c = last_is e es is all
+    by_tests true c = all_last (λ x. is_entry x ≡ true) es e all is
     by_tests false true = all
-    by_tests false false = last_is e es is all
+    by_tests false false = all_last (λ x. is_entry x ≡ true) es e all is
 
 -- A list object is an entry.
 pub entries_are : (es : List Tree) → AreEntries es → are_entries (trees_of es) ≡ true

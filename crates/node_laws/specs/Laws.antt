@@ -8,6 +8,7 @@ use Rattle.ld_model.specs.Plain.{are_plain_items}
 use Rattle.node_model.specs.DueForm.{has_due_form}
 use Rattle.node_model.specs.NodeMap.{Conflict}
 use Rattle.node_model.specs.Generating.{Generated, generate, walked}
+use Rattle.node_laws.specs.Names.{names_in, IsIssued}
 use Rattle.node_laws.specs.Stated.{stated_in, IsAsStated}
 use Rattle.node_laws.specs.Uses.{uses_in, AreNumbered}
 
@@ -29,6 +30,10 @@ NodeMapsHaveTheDueForm = (ts : List Tree) (m : Generated) → generate ts ≡ Ok
 -- Labels are numbered by the uses of the document, and as many are told to be issued as there are uses.
 abbrev pub LabelsAreIssuedInOrder : Type 0
 LabelsAreIssuedInOrder = (ts : List Tree) → AreNumbered (uses_in ts) (walked ts).labels × ((m : Generated) → generate ts ≡ Ok m → m.issued ≡ length (uses_in ts))
+
+-- Each name of a blank node in the node map is a label that was issued.
+abbrev pub BlankNodesHaveIssuedLabels : Type 0
+BlankNodesHaveIssuedLabels = (ts : List Tree) (m : Generated) → generate ts ≡ Ok m → AllByRecursion (IsIssued m.issued) (names_in m.graphs)
 
 -- What comes after the first conflict doesn't change it.
 abbrev pub TheFirstConflictStays : Type 0

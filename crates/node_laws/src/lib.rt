@@ -4,7 +4,7 @@
 //! `proofs/Alike.antt` serves whoever walks a document with other steps: steps that answer alike make walks that end alike.
 #![tactic(auto)]
 
-ghost use Rattle.node_laws.specs.Laws.{LabelsAreIssuedInOrder, NodeMapsAreAsStated, NodeMapsHaveTheDueForm, PlainDocumentsAreACase, TheFirstConflictStays};
+ghost use Rattle.node_laws.specs.Laws.{BlankNodesHaveIssuedLabels, LabelsAreIssuedInOrder, NodeMapsAreAsStated, NodeMapsHaveTheDueForm, PlainDocumentsAreACase, TheFirstConflictStays};
 
 /// The node map of any list of trees, where there is no conflict of indexes, has the due form (JSON-LD 1.1 API, section 7.2): the
 /// default graph is there, each graph is a map from ids to nodes, and each node a map with its id, perhaps an index and types, and for
@@ -22,6 +22,12 @@ pub fn node_maps_have_the_due_form()
 /// document has one number, wherever it is used: as an id, a property, a type, or the name of a graph.
 pub fn labels_are_issued_in_order()
     ensures { LabelsAreIssuedInOrder }
+{}
+
+/// No label of the document comes into a node map: each name of a blank node in it, be it that of a graph, a node, a type or a property,
+/// or of a node that is referred to, is `_:b` with a number below the count of labels that were issued (JSON-LD 1.1 API, section 7.4).
+pub fn blank_nodes_have_issued_labels()
+    ensures { BlankNodesHaveIssuedLabels }
 {}
 
 /// Where a document has two different indexes of a node, the first such conflict is what generation gives (JSON-LD 1.1 API, section 7.2,
