@@ -15,7 +15,7 @@ use Rattle.node_model.specs.NodeMap.{Node, Graph, Graphs, Conflict}
 use Rattle.node_model.specs.AsTrees.{index_put, types_put, properties_put, node_members, node_pair, graph_pair, graph_pairs}
 use Rattle.node_model.specs.Generating.{State, Generated, outcome, walked}
 use Rattle.node_model.specs.DueForm.{is_text, are_entries, is_node_entry, is_node, is_graph, has_due_form}
-use Rattle.node_laws.specs.Laws.{IsNodeInOrder, IsGraphInOrder, NodeMapsHaveTheDueForm}
+use Rattle.node_laws.specs.Laws.{IsNodeInOrder, IsGraphInOrder, IsInForm, NodeMapsHaveTheDueForm}
 use Rattle.node_laws.proofs.Maps.{keys_of-as_members, member_at-as_members}
 use Rattle.node_laws.proofs.Shape.{IsProperty, IsNode, IsGraph, IsMap, entries_are, walked_is}
 
@@ -131,6 +131,9 @@ given None s m is = cc
 pub node_maps_have_the_due_form : NodeMapsHaveTheDueForm
 node_maps_have_the_due_form ts m is =
     let map = walked_is ts in
-    subst (λ (m : Generated). (has_due_form m.graphs ≡ true) × AreAscending m.graphs × AllByRecursion IsGraphInOrder m.graphs)
-    (given (walked ts).conflict (walked ts) m is)
-    (map_is_due (walked ts).graphs map, map_in_order (walked ts).graphs map, graphs_are IsGraphInOrder graph_in_order (walked ts).graphs map.each)
+    subst (λ (m : Generated). IsInForm m.graphs) (given (walked ts).conflict (walked ts) m is)
+    (record {
+      form = map_is_due (walked ts).graphs map;
+      ascend = map_in_order (walked ts).graphs map;
+      each = graphs_are IsGraphInOrder graph_in_order (walked ts).graphs map.each;
+    })

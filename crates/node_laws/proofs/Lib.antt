@@ -16,3 +16,4 @@ pub mod PlainMap
 pub mod PlainKeys
 pub mod PlainDocuments
 pub mod Issued
+pub mod Determined

@@ -1,9 +1,9 @@
 -- What a look-up finds in the node map as trees.
-use Rattle.std.proofs.Common.{◌≡◌, ℕ, List, [], ◌∷◌, Bool, true, false, Option, Some, None, is_some, refl, sym, ap, ◌∙◌}
+use Rattle.std.proofs.Common.{◌≡◌, ℕ, List, [], ◌∷◌, Bool, true, false, not, Option, Some, None, is_some, refl, sym, ap, ◌∙◌}
 use Rattle.std.specs.Prelude.{map as each}
 use Rattle.std.specs.Option.{option_map}
 use Rattle.std.specs.Str.{bytes_eq}
-use Rattle.ld_model.specs.Tree.{Tree, Pairs, text, array, object, trees_of, tree_list-trees_of, members_of, member_list-members_of, member_at, put}
+use Rattle.ld_model.specs.Tree.{Tree, Pairs, text, array, object, trees_of, tree_list-trees_of, members_of, member_list-members_of, member_at, put, is_empty}
 use Rattle.ld_model.specs.Keys.{id_key}
 use Rattle.ld_model.proofs.Puts.{bytes_eq-exact, bytes_eq-sym, member_at-put, member_at-put_other, at_later as member_later}
 use Rattle.ctx_types.specs.Expansion.{is_keyword}
@@ -109,6 +109,13 @@ module _ (id : List ℕ) (n : Node) (node : IsNode n) where
 
   pub types_there : texts_of (member_at type_key (node_members id n)) ≡ n.types
   types_there = ap texts_of (at_keyword type_key refl) ∙ types_by n.types
+
+  typed_by : (ts : List (List ℕ)) → is_some (member_at type_key (types_put ts (index_put n.index ((id_key, text id) ∷ [])))) ≡ not (is_empty ts)
+  typed_by [] = ap is_some (no_type n.index)
+  typed_by (t ∷ ts) = ap is_some (member_at-put type_key (array (trees_of (each text (t ∷ ts)))) (index_put n.index ((id_key, text id) ∷ [])))
+
+  pub typed_there : is_some (member_at type_key (node_members id n)) ≡ not (is_empty n.types)
+  typed_there = ap is_some (at_keyword type_key refl) ∙ typed_by n.types
 
   index_by : (o : Option (List ℕ)) → member_at index_key (index_put o ((id_key, text id) ∷ [])) ≡ option_map text o
   index_by (Some i) = member_at-put index_key (text i) ((id_key, text id) ∷ [])

@@ -1,22 +1,22 @@
 -- A node map has what is stated in the document.
-use Rattle.std.proofs.Common.{◌≡◌, ℕ, List, [], ◌∷◌, ◌++◌, Bool, true, false, cond, ◌&&◌, ◌||◌, not, if◌then◌else◌, Option, Some, None, is_some, refl, sym, ap, ap₂, ◌∙◌, subst, append_assoc}
+use Rattle.std.proofs.Common.{◌≡◌, ℕ, List, [], ◌∷◌, ◌++◌, Bool, true, false, cond, ◌&&◌, ◌||◌, not, if◌then◌else◌, Option, Some, None, is_some, refl, sym, ap, ap₂, ◌∙◌, subst, append_assoc, Err, ◌↔◌}
 use Rattle.std.proofs.lemmas.List.{append-nil}
 use Rattle.std.proofs.lemmas.List.Folds.{list_any-append}
 use Rattle.std.specs.Option.{option_map}
 use Rattle.std.specs.Str.{bytes_eq}
-use Rattle.std.specs.List.{list_any}
+use Rattle.std.specs.List.{list_any, flat_map}
 use Rattle.ld_model.specs.Tree.{Tree, text, trees_of, member_list-members_of, is_empty}
 use Rattle.ld_model.specs.Keys.{default_graph}
 use Rattle.ld_model.specs.NodeMap.{reference}
 use Rattle.ld_model.proofs.Puts.{bytes_eq-exact}
 use Rattle.node_model.specs.Maps.{at}
 use Rattle.node_model.specs.Labels.{Labels, no_labels, named, id_or_new}
-use Rattle.node_model.specs.NodeMap.{Node, Graph, Graphs, new_node, node_or_new, graph_or_new, graph_in, node_in, entries_in, on_graph, with_node, on_node, list_object, with_type, with_index}
+use Rattle.node_model.specs.NodeMap.{Node, Graph, Graphs, new_node, node_or_new, graph_or_new, graph_in, node_in, entries_in, on_graph, with_node, on_node, list_object, with_type, with_index, Conflict, on_entries, told}
 use Rattle.node_model.specs.AsTrees.{graph_pairs, node_members}
-use Rattle.node_model.specs.Generating.{State, Generated, generating, index_by, empty, walked}
+use Rattle.node_model.specs.Generating.{State, Generated, or_conflict, generating, index_by, empty, outcome, walked, generate}
 use Rattle.node_model.specs.Walk.{nowhere}
-use Rattle.node_laws.specs.Stated.{Said, it_is, a_property, an_entry, a_type, an_index, Statement, of_graph, of_node, Stating, stating, stated_in, is_of_graph, said_by, said_of, object_in, IsAsSaid, IsAsStated}
-use Rattle.node_laws.specs.Laws.{NodeMapsAreAsStated}
+use Rattle.node_laws.specs.Stated.{IsAsSaid, IsAsStated, Said, Statement, Stating, a_property, a_type, an_entry, an_index, conflict_by, conflict_with, conflicts_after, conflicts_in, first, indexes_said, is_of_graph, it_is, object_in, of_graph, of_node, once_by, said_by, said_of, stated_in, stating, types_said}
+use Rattle.node_laws.specs.Laws.{ConflictsAreThoseStated, NodeMapsAreAsStated}
 use Rattle.node_laws.proofs.Likeness.{Likeness, Pairwise, Reach, AnswerAlike, lasts_here}
 use Rattle.node_laws.proofs.Alike.{all_beside}
 use Rattle.node_laws.proofs.Maps.{at_first, at_later, all-at}
@@ -24,10 +24,10 @@ use Rattle.node_laws.proofs.Shape.{IsNode, IsGraph, IsMap, graph_in_is, walked_i
 use Rattle.node_laws.proofs.DueForm.{given}
 use Rattle.node_laws.proofs.Changes.{graph_stands, graph_kept, at-on_node}
 use Rattle.node_laws.proofs.SaidOfNode.{index_said, said_to, all_said, told_of, told_of-append, told_of-some, types_are, index_is, property_is, entries_are}
-use Rattle.node_laws.proofs.ReadOut.{node_tree, property_there, entries_there, types_there, index_there, graph_there, node_there}
+use Rattle.node_laws.proofs.ReadOut.{node_tree, property_there, entries_there, types_there, typed_there, index_there, graph_there, node_there}
 
 -- These graphs have what these statements say.
-record Holds (stated : List Statement) (graphs : Graphs) : Type 0 where
+pub record Holds (stated : List Statement) (graphs : Graphs) : Type 0 where
   graph : (h : List ℕ) → is_some (at h graphs) ≡ (bytes_eq h default_graph || list_any (is_of_graph h) stated)
   node : (h k : List ℕ) → at k (graph_in h graphs) ≡ told_of (said_of h k stated) None
 
@@ -152,12 +152,68 @@ index_labels (Some earlier) g id index s = by_test (bytes_eq earlier index) s _ 
     by_test true r u is other = is
     by_test false r u is other = other
 
+-- Conflicts, with one more statement.
+conflicts_after-last : (before xs : List Statement) (x : Statement) → conflicts_after before (xs ++ x ∷ []) ≡ conflicts_after before xs ++ conflict_with (before ++ xs) x
+conflicts_after-last before [] x = append-nil (conflict_with before x) ∙ ap (λ l. conflict_with l x) (sym (append-nil before))
+conflicts_after-last before (y ∷ xs) x =
+    ap (λ l. conflict_with before y ++ l) (conflicts_after-last (before ++ y ∷ []) xs x ∙ ap (λ l. conflicts_after (before ++ y ∷ []) xs ++ conflict_with l x) (append_assoc before (y ∷ []) xs))
+    ∙ sym (append_assoc (conflict_with before y) (conflicts_after (before ++ y ∷ []) xs) (conflict_with (before ++ y ∷ xs) x))
+
+-- This is the first conflict of these statements.
+abbrev IsFirst : List Statement → Option Conflict → Type 0
+IsFirst stated o = o ≡ first (conflicts_in stated)
+
+without_conflict : (stated : List Statement) (x : Statement) (o : Option Conflict) → conflict_with stated x ≡ [] → IsFirst stated o → IsFirst (stated ++ x ∷ []) o
+without_conflict stated x o none is =
+    is
+    ∙ ap first (sym (append-nil (conflicts_in stated)))
+    ∙ ap (λ l. first (conflicts_in stated ++ l)) (sym none)
+    ∙ ap first (sym (conflicts_after-last [] stated x))
+
+with_conflict : (stated : List Statement) (x : Statement) (o : Option Conflict) (c : Conflict) → conflict_with stated x ≡ c ∷ [] → IsFirst stated o → IsFirst (stated ++ x ∷ []) (or_conflict o c)
+with_conflict stated x o c one is =
+    ap (λ o. or_conflict o c) is
+    ∙ by_first (conflicts_in stated)
+    ∙ ap (λ l. first (conflicts_in stated ++ l)) (sym one)
+    ∙ ap first (sym (conflicts_after-last [] stated x))
+  where
+    by_first : (cs : List Conflict) → or_conflict (first cs) c ≡ first (cs ++ c ∷ [])
+    by_first [] = refl
+    by_first (d ∷ cs) = refl
+
+-- The index of a node is the first one that was said of it.
+index_stated : (g id : List ℕ) (stated : List Statement) (graphs : Graphs) → Holds stated graphs → (node_in id (graph_in g graphs)).index ≡ first (flat_map indexes_said (said_of g id stated))
+index_stated g id stated graphs is = ap (λ o. (node_or_new o).index) (is.node g id) ∙ by_said (said_of g id stated)
+  where
+    by_said : (ds : List Said) → (node_or_new (told_of ds None)).index ≡ first (flat_map indexes_said ds)
+    by_said [] = refl
+    by_said (d ∷ ds) = ap (λ o. (node_or_new o).index) (told_of-some ds (said_to d new_node)) ∙ index_is (d ∷ ds)
+
+index_conflict : (o : Option (List ℕ)) (g id index : List ℕ) (s : State) (stated : List Statement) → o ≡ first (flat_map indexes_said (said_of g id stated)) → IsFirst stated s.conflict
+    → IsFirst (stated ++ of_node g id (an_index index) ∷ []) (index_by o g id index s).conflict
+index_conflict None g id index s stated none is = without_conflict stated (of_node g id (an_index index)) s.conflict (ap (λ o. conflict_by o id index) (sym none)) is
+index_conflict (Some earlier) g id index s stated has is = by_test (bytes_eq earlier index) refl
+  where
+    both_ways : (b : Bool) → bytes_eq earlier index ≡ b → conflict_with stated (of_node g id (an_index index)) ≡ (if b then [] else (record { node = id; first = earlier; second = index } ∷ []))
+    both_ways b test = ap (λ o. conflict_by o id index) (sym has) ∙ ap (λ b. if b then [] else (record { node = id; first = earlier; second = index } ∷ [])) test
+
+    by_test : (b : Bool) → bytes_eq earlier index ≡ b
+        → IsFirst (stated ++ of_node g id (an_index index) ∷ []) (if b then s else record { graphs = s.graphs; labels = s.labels; conflict = or_conflict s.conflict (record { node = id; first = earlier; second = index }) }).conflict
+    by_test true same = without_conflict stated (of_node g id (an_index index)) s.conflict (both_ways true same) is
+    by_test false other = with_conflict stated (of_node g id (an_index index)) s.conflict (record { node = id; first = earlier; second = index }) (both_ways false other) is
+
+-- What is kept of the two states: the same labels, what is stated, and the first conflict.
+record Told (s : State) (t : Stating) : Type 0 where
+  labels : s.labels ≡ t.labels
+  holds : Holds t.stated s.graphs
+  conflict : IsFirst t.stated s.conflict
+
 -- The walk that generates beside the walk that notes statements: the same labels, the same names, the same entries.
 abbrev told_alike : Likeness State (List ℕ) Tree Stating (List ℕ) Tree
-told_alike = record { states = λ s t. (s.labels ≡ t.labels) × Holds t.stated s.graphs; names = λ s n m. n ≡ m; properties = λ s n m. n ≡ m; entries = λ s e f. e ≡ f }
+told_alike = record { states = Told; names = λ s n m. n ≡ m; properties = λ s n m. n ≡ m; entries = λ s e f. e ≡ f }
 
-reach : (s r : State) (t : Stating) → r.labels ≡ t.labels → Holds t.stated r.graphs → Reach told_alike s r t
-reach s r t labels is = record { states = (labels, is); lasts = record { names = λ n m is. is; properties = λ n m is. is; entries = λ e f is. is } }
+reach : (s r : State) (t : Stating) → Told r t → Reach told_alike s r t
+reach s r t is = record { states = is; lasts = record { names = λ n m is. is; properties = λ n m is. is; entries = λ e f is. is } }
 
 same_lists : (es fs : List Tree) → Pairwise (λ e f. e ≡ f) es fs → es ≡ fs
 same_lists [] [] is = refl
@@ -165,42 +221,58 @@ same_lists (e ∷ es) (f ∷ fs) is = λ i. is.0 i ∷ same_lists es fs is.1 i
 same_lists [] (f ∷ fs) is = absurd is
 same_lists (e ∷ es) [] is = absurd is
 
--- A statement in other words that are equal.
-reworded : (stated : List Statement) (graphs : Graphs) (x y : Statement) → x ≡ y → Holds (stated ++ x ∷ []) graphs → Holds (stated ++ y ∷ []) graphs
-reworded stated graphs x y same is = subst (λ z. Holds (stated ++ z ∷ []) graphs) same is
+-- After a step that states this, in these words or in others that are equal.
+stated : (s r : State) (t u : Stating) (x y : Statement) → x ≡ y → u.stated ≡ t.stated ++ y ∷ [] → r.labels ≡ u.labels → Holds (t.stated ++ x ∷ []) r.graphs → IsFirst (t.stated ++ x ∷ []) r.conflict → Reach told_alike s r u
+stated s r t u x y same is labels holds conflict = reach s r u (record {
+  labels = labels;
+  holds = subst (λ l. Holds l r.graphs) (ap (λ z. t.stated ++ z ∷ []) same ∙ sym is) holds;
+  conflict = subst (λ l. IsFirst l r.conflict) (ap (λ z. t.stated ++ z ∷ []) same ∙ sym is) conflict;
+})
 
 steps_tell : AnswerAlike told_alike generating stating
 steps_tell = record {
   named = λ x s t is.
-      let same : named x s.labels ≡ named x t.labels = ap (named x) is.0 in
-      (reach s _ _ (ap (λ (p : List ℕ × Labels). p.1) same) is.1, ap (λ (p : List ℕ × Labels). p.0) same, λ apart. ap (λ (p : List ℕ × Labels). p.0) same);
+      let same : named x s.labels ≡ named x t.labels = ap (named x) is.labels in
+      let name : (named x s.labels).0 ≡ (named x t.labels).0 = ap (λ (p : List ℕ × Labels). p.0) same in
+      (reach s _ _ (record { labels = ap (λ (p : List ℕ × Labels). p.1) same; holds = is.holds; conflict = is.conflict }), name, λ apart. name);
   node = λ g h id s t graph is.
-      let same : id_or_new id s.labels ≡ id_or_new id t.labels = ap (id_or_new id) is.0 in
-      let name : (id_or_new id s.labels).0 ≡ (id_or_new id t.labels).0 = ap (λ (p : List ℕ × Labels). p.0) same in (
-        reach s _ _ (ap (λ (p : List ℕ × Labels). p.1) same)
-            (reworded t.stated _ (of_node g (id_or_new id s.labels).0 it_is) _ (λ i. of_node (graph i) (name i) it_is) (node_step g _ it_is (λ n. n) t.stated s.graphs (λ n. refl) is.1)),
+      let same : id_or_new id s.labels ≡ id_or_new id t.labels = ap (id_or_new id) is.labels in
+      let name : (id_or_new id s.labels).0 ≡ (id_or_new id t.labels).0 = ap (λ (p : List ℕ × Labels). p.0) same in
+      let x = of_node g (id_or_new id s.labels).0 it_is in (
+        stated s _ t _ x _ (λ i. of_node (graph i) (name i) it_is) refl (ap (λ (p : List ℕ × Labels). p.1) same)
+            (node_step g (id_or_new id s.labels).0 it_is (λ n. n) t.stated s.graphs (λ n. refl) is.holds) (without_conflict t.stated x s.conflict refl is.conflict),
         name,
       );
   property = λ g h n m x s t apart graph id is.
-      let same : named x s.labels ≡ named x t.labels = ap (named x) is.0 in
-      let name : (named x s.labels).0 ≡ (named x t.labels).0 = ap (λ (p : List ℕ × Labels). p.0) same in (
-        reach s _ _ (ap (λ (p : List ℕ × Labels). p.1) same)
-            (reworded t.stated _ (of_node g n (a_property (named x s.labels).0)) _ (λ i. of_node (graph i) (id i) (a_property (name i))) (node_step g n (a_property (named x s.labels).0) _ t.stated s.graphs (λ n. refl) is.1)),
+      let same : named x s.labels ≡ named x t.labels = ap (named x) is.labels in
+      let name : (named x s.labels).0 ≡ (named x t.labels).0 = ap (λ (p : List ℕ × Labels). p.0) same in
+      let y = of_node g n (a_property (named x s.labels).0) in (
+        stated s _ t _ y _ (λ i. of_node (graph i) (id i) (a_property (name i))) refl (ap (λ (p : List ℕ × Labels). p.1) same)
+            (node_step g n (a_property (named x s.labels).0) (on_entries (named x s.labels).0 (λ es. es)) t.stated s.graphs (λ n. refl) is.holds) (without_conflict t.stated y s.conflict refl is.conflict),
         name,
       );
-  graph = λ g h s t graph is. reach s _ _ is.0 (reworded t.stated _ (of_graph g) (of_graph h) (ap of_graph graph) (graph_step g t.stated s.graphs is.1));
+  graph = λ g h s t graph is.
+      stated s _ t _ (of_graph g) (of_graph h) (ap of_graph graph) refl is.labels (graph_step g t.stated s.graphs is.holds) (without_conflict t.stated (of_graph g) s.conflict refl is.conflict);
   value = λ ms s is. refl;
   reference = λ n m s is. ap reference is;
   list = λ es fs s is. ap list_object (same_lists es fs is);
   add = λ g h n m p q e f s t graph id property entry is.
-      reach s _ _ is.0 (reworded t.stated _ (of_node g n (an_entry p e)) _ (λ i. of_node (graph i) (id i) (an_entry (property i) (entry i))) (node_step g n (an_entry p e) _ t.stated s.graphs (λ n. refl) is.1));
+      let x = of_node g n (an_entry p e) in
+      stated s _ t _ x _ (λ i. of_node (graph i) (id i) (an_entry (property i) (entry i))) refl is.labels
+      (node_step g n (an_entry p e) (on_entries p (told e)) t.stated s.graphs (λ n. refl) is.holds) (without_conflict t.stated x s.conflict refl is.conflict);
   append = λ g h n m p q es fs s t graph id property entries is.
       let same = same_lists es fs entries in
-      reach s _ _ is.0 (reworded t.stated _ (of_node g n (an_entry p (list_object es))) _ (λ i. of_node (graph i) (id i) (an_entry (property i) (list_object (same i)))) (node_step g n (an_entry p (list_object es)) _ t.stated s.graphs (λ n. refl) is.1));
+      let x = of_node g n (an_entry p (list_object es)) in
+      stated s _ t _ x _ (λ i. of_node (graph i) (id i) (an_entry (property i) (list_object (same i)))) refl is.labels
+      (node_step g n (an_entry p (list_object es)) (on_entries p (told (list_object es))) t.stated s.graphs (λ n. refl) is.holds) (without_conflict t.stated x s.conflict refl is.conflict);
   type_ = λ g h n m x y s t graph id name is.
-      reach s _ _ is.0 (reworded t.stated _ (of_node g n (a_type x)) _ (λ i. of_node (graph i) (id i) (a_type (name i))) (node_step g n (a_type x) (with_type x) t.stated s.graphs (λ n. refl) is.1));
+      let z = of_node g n (a_type x) in
+      stated s _ t _ z _ (λ i. of_node (graph i) (id i) (a_type (name i))) refl is.labels
+      (node_step g n (a_type x) (with_type x) t.stated s.graphs (λ n. refl) is.holds) (without_conflict t.stated z s.conflict refl is.conflict);
   index = λ g h n m x s t graph id is.
-      reach s _ _ (index_labels _ g n x s ∙ is.0) (reworded t.stated _ (of_node g n (an_index x)) _ (λ i. of_node (graph i) (id i) (an_index x)) (index_step _ g n x s t.stated refl is.1));
+      let o = (node_in n (graph_in g s.graphs)).index in
+      stated s (index_by o g n x s) t _ (of_node g n (an_index x)) _ (λ i. of_node (graph i) (id i) (an_index x)) refl (index_labels o g n x s ∙ is.labels)
+      (index_step o g n x s t.stated refl is.holds) (index_conflict o g n x s t.stated (index_stated g n t.stated s.graphs is.holds) is.conflict);
 }
 
 empty_holds : Holds [] empty.graphs
@@ -220,22 +292,28 @@ empty_holds = record { graph = λ h. by_name h; node = λ h k. none h k }
         by_test true same = ap (λ o. at k (graph_or_new o)) (at_first {V = Graph} h (default_graph, []) [] same)
         by_test false apart = ap (λ o. at k (graph_or_new o)) (at_later {V = Graph} h (default_graph, []) [] apart)
 
-walked_holds : (ts : List Tree) → Holds (stated_in ts) (walked ts).graphs
-walked_holds ts =
-    (all_beside told_alike generating stating steps_tell default_graph default_graph nowhere nowhere (trees_of ts) empty (record { state = empty; items = [] }) (record { state = record { labels = no_labels; stated = [] }; items = [] }) refl tt
-    (record { states = (refl, empty_holds); gathered = tt; lasts = lasts_here told_alike empty })).states.1
+pub walked_told : (ts : List Tree) → Holds (stated_in ts) (walked ts).graphs × ((walked ts).conflict ≡ first (conflicts_in (stated_in ts)))
+walked_told ts =
+    let is = (all_beside told_alike generating stating steps_tell default_graph default_graph nowhere nowhere (trees_of ts) empty (record { state = empty; items = [] }) (record { state = record { labels = no_labels; stated = [] }; items = [] }) refl tt
+    (record { states = record { labels = refl; holds = empty_holds; conflict = refl }; gathered = tt; lasts = lasts_here told_alike empty })).states in
+    (is.holds, is.conflict)
 
 -- As trees.
+some_once : (ts : List (List ℕ)) → not (is_empty (once_by bytes_eq ts)) ≡ not (is_empty ts)
+some_once [] = refl
+some_once (t ∷ ts) = refl
+
 node_as_said : (id : List ℕ) (ds : List Said) (n : Node) → IsNode n → n ≡ all_said ds new_node → IsAsSaid ds (node_members id n)
 node_as_said id ds n node is = record {
   types = types_there id n node ∙ ap (λ (n : Node). n.types) is ∙ types_are ds;
+  typed = typed_there id n node ∙ ap (λ (n : Node). not (is_empty n.types)) is ∙ ap (λ ts. not (is_empty ts)) (types_are ds) ∙ some_once (flat_map types_said ds);
   index = index_there id n node ∙ ap (λ (n : Node). option_map text n.index) is ∙ ap (option_map text) (index_is ds);
   property = λ p apart. property_there id n node p apart ∙ ap (λ (n : Node). is_some (at p n.properties)) is ∙ property_is p ds;
   entries = λ p apart. entries_there id n node p apart ∙ ap (λ (n : Node). entries_in p n.properties) is ∙ entries_are p ds;
 }
 
 nothing_said : IsAsSaid [] []
-nothing_said = record { types = refl; index = refl; property = λ p apart. refl; entries = λ p apart. refl }
+nothing_said = record { types = refl; typed = refl; index = refl; property = λ p apart. refl; entries = λ p apart. refl }
 
 told_some : (d : Said) (ds : List Said) → told_of (d ∷ ds) None ≡ Some (all_said (d ∷ ds) new_node)
 told_some d ds = told_of-some ds (said_to d new_node)
@@ -262,4 +340,12 @@ map_as_stated stated graphs map is = record {
 
 pub node_maps_are_as_stated : NodeMapsAreAsStated
 node_maps_are_as_stated ts m is =
-    subst (λ (m : Generated). IsAsStated (stated_in ts) m.graphs) (given (walked ts).conflict (walked ts) m is) (map_as_stated (stated_in ts) (walked ts).graphs (walked_is ts) (walked_holds ts))
+    subst (λ (m : Generated). IsAsStated (stated_in ts) m.graphs) (given (walked ts).conflict (walked ts) m is) (map_as_stated (stated_in ts) (walked ts).graphs (walked_is ts) (walked_told ts).0)
+
+failed : (o : Option Conflict) (s : State) (c : Conflict) → (outcome o s ≡ Err c) ↔ (o ≡ Some c)
+failed (Some d) s c = ((λ is. cc), (λ is. cc))
+failed None s c = ((λ is. absurd (cc)), (λ is. absurd (cc)))
+
+pub conflicts_are_those_stated : ConflictsAreThoseStated
+conflicts_are_those_stated ts c =
+    subst (λ o. (generate ts ≡ Err c) ↔ (o ≡ Some c)) (walked_told ts).1 (failed (walked ts).conflict (walked ts) c)

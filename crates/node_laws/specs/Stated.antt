@@ -10,7 +10,7 @@ use Rattle.ld_model.specs.NodeMap.{reference}
 use Rattle.ctx_types.specs.Expansion.{is_keyword}
 use Rattle.node_model.specs.Keys.{type_key, index_key}
 use Rattle.node_model.specs.Labels.{Labels, no_labels, named, id_or_new}
-use Rattle.node_model.specs.NodeMap.{list_object, is_list_object}
+use Rattle.node_model.specs.NodeMap.{Conflict, list_object, is_list_object}
 use Rattle.node_model.specs.Walk.{Steps, nowhere, walk, texts_of}
 
 -- What is said of a node: that it is there; that it has a property, perhaps with no entry; an entry of a property; a type; an index.
@@ -101,6 +101,27 @@ once_by repeats (x ∷ xs) = x ∷ filter (λ y. not (repeats y x)) (once_by rep
 abbrev pub repeats_entry : Tree → Tree → Bool
 repeats_entry e earlier = not (is_list_object e) && same_tree e earlier
 
+-- An index is in conflict with the first one that was said of the same node in the same graph, if it is another one.
+abbrev pub conflict_by : Option (List ℕ) → List ℕ → List ℕ → List Conflict
+conflict_by (Some earlier) id index = if bytes_eq earlier index then [] else (record { node = id; first = earlier; second = index } ∷ [])
+conflict_by None id index = []
+
+abbrev pub conflict_said : List Said → List ℕ → Said → List Conflict
+conflict_said before id (an_index index) = conflict_by (first (flat_map indexes_said before)) id index
+conflict_said before id _ = []
+
+abbrev pub conflict_with : List Statement → Statement → List Conflict
+conflict_with before (of_node g id said) = conflict_said (said_of g id before) id said
+conflict_with before (of_graph g) = []
+
+-- The conflicts of statements with those before them.
+abbrev pub conflicts_after : List Statement → List Statement → List Conflict
+conflicts_after before [] = []
+conflicts_after before (x ∷ xs) = conflict_with before x ++ conflicts_after (before ++ x ∷ []) xs
+
+abbrev pub conflicts_in : List Statement → List Conflict
+conflicts_in stated = conflicts_after [] stated
+
 -- The members of an object, the elements of an array, and nothing where there is none.
 abbrev pub object_in : Option Tree → Pairs
 object_in (Some (object ms)) = member_list ms
@@ -110,10 +131,11 @@ abbrev pub array_in : Option Tree → List Tree
 array_in (Some (array ts)) = tree_list ts
 array_in _ = []
 
--- These members of a node are what is said of it: its types once each, its first index, and under each property its entries, without
+-- These members of a node are what is said of it: its types once each, if there are some, its first index, and under each property its entries, without
 -- those that repeat an earlier one, in the order in which they are stated first.
 pub record IsAsSaid (said : List Said) (ms : Pairs) : Type 0 where
   pub types : texts_of (member_at type_key ms) ≡ once_by bytes_eq (flat_map types_said said)
+  pub typed : is_some (member_at type_key ms) ≡ not (is_empty (flat_map types_said said))
   pub index : member_at index_key ms ≡ option_map text (first (flat_map indexes_said said))
   pub property : (p : List ℕ) → is_keyword p ≡ false → is_some (member_at p ms) ≡ list_any (is_of_property p) said
   pub entries : (p : List ℕ) → is_keyword p ≡ false → array_in (member_at p ms) ≡ once_by repeats_entry (flat_map (entries_said p) said)

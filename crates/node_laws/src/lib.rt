@@ -4,7 +4,7 @@
 //! `proofs/Alike.antt` serves whoever walks a document with other steps: steps that answer alike make walks that end alike.
 #![tactic(auto)]
 
-ghost use Rattle.node_laws.specs.Laws.{BlankNodesHaveIssuedLabels, LabelsAreIssuedInOrder, NodeMapsAreAsStated, NodeMapsHaveTheDueForm, PlainDocumentsAreACase, TheFirstConflictStays};
+ghost use Rattle.node_laws.specs.Laws.{BlankNodesHaveIssuedLabels, ConflictsAreThoseStated, LabelsAreIssuedInOrder, NodeMapsAreAsStated, NodeMapsHaveTheDueForm, OutcomeIsDetermined, PlainDocumentsAreACase, TheFirstConflictStays};
 
 /// The node map of any list of trees, where there is no conflict of indexes, has the due form (JSON-LD 1.1 API, section 7.2): the
 /// default graph is there, each graph is a map from ids to nodes, and each node a map with its id, perhaps an index and types, and for
@@ -44,6 +44,18 @@ pub fn the_first_conflict_stays()
 /// Statements are collected by a walk of their own, which names blank nodes as generation does and looks nothing up but labels.
 pub fn node_maps_are_as_stated()
     ensures { NodeMapsAreAsStated }
+{}
+
+/// These laws determine the outcome: a node map that has the due form, is in order, and has what the document states and nothing else,
+/// is the one that generation gives.
+pub fn outcome_is_determined()
+    ensures { OutcomeIsDetermined }
+{}
+
+/// Generation fails exactly where the document says two different indexes of a node of a graph (JSON-LD 1.1 API, section 7.2, step 6.8),
+/// and tells the first index, in the order of the walk, that differs from the first one of its node, with both and the node.
+pub fn conflicts_are_those_stated()
+    ensures { ConflictsAreThoseStated }
 {}
 
 /// For a plain document, whose items are node objects with an id and with texts and references under their properties, generation gives
