@@ -6,3 +6,5 @@ mod Unused
 mod Runs
 mod Gathered
 mod Divided
+mod Numbered
+mod Apart
