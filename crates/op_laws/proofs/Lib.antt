@@ -8,3 +8,5 @@ mod Gathered
 mod Divided
 mod Numbered
 mod Apart
+mod Read
+mod Told

@@ -10,6 +10,7 @@ use Rattle.op_model.specs.Noting.{range, top_range, place_of_items, ops_of, ops_
 use Rattle.op_model.specs.Running.{used, label_in, entry_in, uses_of_all, labelled, apply_all, Run, run, before}
 use Rattle.op_laws.specs.Words.{is_known, IsPlaceKnown, place_in, IsReady}
 use Rattle.op_laws.specs.Own.{HasOwn, EntryHasOwn}
+use Rattle.op_laws.specs.Told.{AreTold}
 
 -- The items of a document, divided into chunks in any way: the operations of these, run one after another, come to the state of
 -- generation after the whole document.
@@ -41,3 +42,7 @@ NamesAreToldApart = (names : List Name) (a b : Name) → length names ≤ 2 ^ 64
 -- Two entries that become one are one.
 abbrev pub EntriesAreToldApart : Type 0
 EntriesAreToldApart = (names : List Name) (e f : Entry) → length names ≤ 2 ^ 64 → EntryHasOwn names e → EntryHasOwn names f → entry_in names e ≡ entry_in names f → e ≡ f
+
+-- The node map has what the operations tell, and nothing else.
+abbrev pub NodeMapsAreTold : Type 0
+NodeMapsAreTold = (os : List Op) → AreTold (used [] (uses_of_all os)) os (run os before).state.graphs

@@ -4,7 +4,7 @@
 //! There is no code here. Each function does nothing, and its contract is one law, which `specs/Laws.antt` states.
 #![tactic(auto)]
 
-ghost use Rattle.op_laws.specs.Laws.{ARangeRunsAnywhere, EntriesAreToldApart, FirstUsesAreEnough, LabelsCanBeNumberedFirst, NamesAreToldApart, OperationsAreGeneration};
+ghost use Rattle.op_laws.specs.Laws.{ARangeRunsAnywhere, EntriesAreToldApart, FirstUsesAreEnough, LabelsCanBeNumberedFirst, NamesAreToldApart, NodeMapsAreTold, OperationsAreGeneration};
 
 /// The operations of a document's chunks, run one after another, come to what node map generation comes to (JSON-LD 1.1 API, section
 /// 7.2): the same node map, the same labels, as many of them, and the same first conflict of indexes. This holds of any list of trees and
@@ -43,4 +43,14 @@ pub fn names_are_told_apart()
 /// equal value or reference is found under names exactly where it is found under labels.
 pub fn entries_are_told_apart()
     ensures { EntriesAreToldApart }
+{}
+
+/// The node map has what the operations tell, and nothing else (JSON-LD 1.1 API, section 7.2). Beside the default graph, the graphs are
+/// those that an operation has. The nodes of a graph are those that an operation has there; and each is what the operations that have
+/// this node make of it, one after another. So operations that have no node in common may be told apart.
+///
+/// Under a property of a node stand the values and references that are added there, each once, where it is added first, and each list
+/// that is appended there, in their order.
+pub fn node_maps_are_told()
+    ensures { NodeMapsAreTold }
 {}
