@@ -1,0 +1,4 @@
+pub mod Words
+pub mod Own
+pub mod Told
+pub mod Laws
