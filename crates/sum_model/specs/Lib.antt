@@ -1,0 +1,4 @@
+pub mod Ops
+pub mod Joins
+pub mod Sums
+pub mod Shards
