@@ -2,7 +2,8 @@
 use Rattle.std.proofs.Common.{◌≡◌, ℕ, List, [], ◌∷◌, refl, Some, None}
 use Rattle.std.specs.Prelude.{codes}
 use Rattle.ld_model.specs.Tree.{text, object, no_members, member}
-use Rattle.sum_model.specs.Ops.{Name, iri, source, fresh, Entry, value, reference, listed, no_entries, entry, use_label, ensure_graph, ensure_node, ensure_property, add_entry, append_list, add_type, set_index}
+use Rattle.sum_model.specs.Names.{Name, iri, source, fresh}
+use Rattle.sum_model.specs.Ops.{Entry, value, reference, list, no_entries, entry, use_label, ensure_graph, ensure_node, ensure_property, add_entry, append_list, add_type, set_index}
 use Rattle.sum_model.specs.Sums.{Place, Placed, placed, PartEntry, bare, Sum, empty_sum, join, sum}
 use Rattle.sum_model.specs.Shards.{shard_of, in_shard, ops_in, part_in}
 
@@ -27,8 +28,8 @@ q = iri (codes "http://e/q")
 abbrev v : Entry
 v = value (object (member (codes "@value") (text (codes "v")) no_members))
 
-abbrev list : Entry
-list = listed (entry v no_entries)
+abbrev l : Entry
+l = list (entry v no_entries)
 
 abbrev place : ℕ → ℕ → Place
 place chunk number = record { chunk = chunk; number = number }
@@ -53,7 +54,7 @@ a_type_stays_where_it_was_first : sum (placed 0 (add_type g a p ∷ add_type g a
 a_type_stays_where_it_was_first = refl
 
 -- Values and references stand once, lists each time.
-entries_of_a_property : sum (placed 0 (ensure_property g a q ∷ add_entry g a p v ∷ append_list g a p (entry v no_entries) ∷ add_entry g a p (reference b) ∷ add_entry g a p v ∷ append_list g a p (entry v no_entries) ∷ add_entry g a p (reference b) ∷ [])) ≡ record { graphs = []; nodes = ((g, a), with_properties ((q, []) ∷ (p, v ∷ list ∷ reference b ∷ list ∷ []) ∷ [])) ∷ [] }
+entries_of_a_property : sum (placed 0 (ensure_property g a q ∷ add_entry g a p v ∷ append_list g a p (entry v no_entries) ∷ add_entry g a p (reference b) ∷ add_entry g a p v ∷ append_list g a p (entry v no_entries) ∷ add_entry g a p (reference b) ∷ [])) ≡ record { graphs = []; nodes = ((g, a), with_properties ((q, []) ∷ (p, v ∷ l ∷ reference b ∷ l ∷ []) ∷ [])) ∷ [] }
 entries_of_a_property = refl
 
 -- The index that was first set stays, and so does the first one that differs from it.

@@ -1,3 +1,4 @@
+pub mod Names
 pub mod Ops
 pub mod Joins
 pub mod Sums

@@ -1,7 +1,9 @@
 -- The sum of operations: what they add to a node map, by graphs and nodes, each in the order of its first use.
-use Rattle.std.specs.Prelude.{ℕ, ◌+◌, List, [], ◌∷◌, Bool, ◌&&◌, if◌then◌else◌, Option, Some, None}
+use Rattle.std.specs.Prelude.{ℕ, ◌+◌, List, [], ◌∷◌, Bool, false, ◌&&◌, if◌then◌else◌, Option, Some, None}
 use Rattle.std.specs.Str.{bytes_eq}
-use Rattle.sum_model.specs.Ops.{Name, same_name, Entry, listed, same_entry, Op, use_label, ensure_graph, ensure_node, ensure_property, add_entry, append_list, add_type, set_index}
+use Rattle.ld_model.specs.Tree.{same_tree}
+use Rattle.sum_model.specs.Names.{Name, same_name}
+use Rattle.sum_model.specs.Ops.{Entry, value, reference, list, Op, use_label, ensure_graph, ensure_node, ensure_property, add_entry, append_list, add_type, set_index}
 use Rattle.sum_model.specs.Joins.{lists_joined, maps_joined}
 
 -- Where an operation is: in which chunk of the document, and which of the operations of that chunk, counted from 0.
@@ -26,6 +28,12 @@ Key = Name × Name
 
 abbrev pub same_key : Key → Key → Bool
 same_key a b = same_name a.0 b.0 && same_name a.1 b.1
+
+-- Whether an entry is an equal value or the same reference. No list is the same as anything.
+abbrev pub same_entry : Entry → Entry → Bool
+same_entry (value a) (value b) = same_tree a b
+same_entry (reference a) (reference b) = same_name a b
+same_entry _ _ = false
 
 -- The index of a node: where it was first set, what it is, and where it was first set to something else, with that.
 pub record Index : Type 0 where
@@ -91,7 +99,7 @@ sum_of_one at (ensure_graph graph) = record { graphs = graph ∷ []; nodes = [] 
 sum_of_one at (ensure_node graph node) = at_node graph node bare
 sum_of_one at (ensure_property graph node property) = at_property graph node property []
 sum_of_one at (add_entry graph node property e) = at_property graph node property (e ∷ [])
-sum_of_one at (append_list graph node property es) = at_property graph node property (listed es ∷ [])
+sum_of_one at (append_list graph node property es) = at_property graph node property (list es ∷ [])
 sum_of_one at (add_type graph node name) = at_node graph node (record { types = name ∷ []; index = None; properties = [] })
 sum_of_one at (set_index graph node text) = at_node graph node (record { types = []; index = Some (record { place = at; text = text; conflict = None }); properties = [] })
 
