@@ -1,0 +1,5 @@
+pub mod Lists
+pub mod Maps
+pub mod Same
+pub mod Sums
+pub mod Parts
