@@ -5,8 +5,8 @@ use Rattle.std.specs.Map.{keys_of}
 use Rattle.std.proofs.lemmas.List.Elements.{filter-append}
 use Rattle.std.proofs.lemmas.Map.Entries.{lookup-filter-keys}
 use Rattle.std.proofs.lemmas.Map.Views.{any-filter_same}
-use Rattle.sum_model.specs.Names.{Name, same_name}
-use Rattle.sum_model.specs.Ops.{Op, use_label, ensure_graph, ensure_node, ensure_property, add_entry, append_list, add_type, set_index}
+use Rattle.op_model.specs.Names.{Name, same_name}
+use Rattle.op_model.specs.Ops.{Op, use_label, ensure_graph, ensure_node, ensure_property, add_entry, append_list, add_type, set_index}
 use Rattle.sum_model.specs.Joins.{is_new, lists_joined, or_empty, value_at, values_joined, maps_joined}
 use Rattle.sum_model.specs.Sums.{Place, Placed, Key, same_key, PartEntry, bare, part_entries_joined, Sum, empty_sum, join, at_node, sum_of_one, sum}
 use Rattle.sum_model.specs.Shards.{falls_in, ops_in, part_in}

@@ -3,8 +3,8 @@ use Rattle.std.proofs.Common.{◌==◌, ap, ap₂, eqb-true}
 use Rattle.ld_model.proofs.Puts.{bytes_eq-exact}
 use Rattle.ld_model.proofs.SameTree.{same_tree-exact}
 use Rattle.ld_model.proofs.Truths.{both}
-use Rattle.sum_model.specs.Names.{iri, source, fresh, same_name}
-use Rattle.sum_model.specs.Ops.{value, reference}
+use Rattle.op_model.specs.Names.{iri, source, fresh, same_name}
+use Rattle.op_model.specs.Ops.{value, reference}
 use Rattle.sum_model.specs.Sums.{same_entry, same_key}
 use Rattle.sum_laws.proofs.Lists.{IsExact}
 

@@ -2,7 +2,7 @@
 use Rattle.std.proofs.Common.{◌≡◌, ℕ, List, [], ◌∷◌, Bool, true, false, Option, Some, None, refl, sym, ap, ◌∙◌}
 use Rattle.std.specs.Str.{bytes_eq}
 use Rattle.ld_model.proofs.Puts.{bytes_eq-exact}
-use Rattle.sum_model.specs.Names.{same_name}
+use Rattle.op_model.specs.Names.{same_name}
 use Rattle.sum_model.specs.Joins.{lists_joined, maps_joined}
 use Rattle.sum_model.specs.Sums.{Place, same_key, same_entry, Index, conflict_with, indexes_joined, bare, properties_joined, part_entries_joined, join, sum_of_one, sum}
 use Rattle.sum_laws.specs.Laws.{IsMonoid, JoinIsAMonoid, TheSumOfBothIsTheJoin}

@@ -1,6 +1,6 @@
 -- Laws of sums and their join.
 use Rattle.std.specs.Prelude.{◌≡◌, List, ◌++◌, Bool}
-use Rattle.sum_model.specs.Names.{Name}
+use Rattle.op_model.specs.Names.{Name}
 use Rattle.sum_model.specs.Sums.{Placed, empty_sum, join, sum}
 use Rattle.sum_model.specs.Shards.{ops_in, part_in}
 

@@ -2,8 +2,8 @@
 use Rattle.std.proofs.Common.{◌≡◌, ℕ, List, [], ◌∷◌, refl, Some, None}
 use Rattle.std.specs.Prelude.{codes}
 use Rattle.ld_model.specs.Tree.{text, object, no_members, member}
-use Rattle.sum_model.specs.Names.{Name, iri, source, fresh}
-use Rattle.sum_model.specs.Ops.{Entry, value, reference, list, no_entries, entry, use_label, ensure_graph, ensure_node, ensure_property, add_entry, append_list, add_type, set_index}
+use Rattle.op_model.specs.Names.{Name, iri, source, fresh}
+use Rattle.op_model.specs.Ops.{Entry, value, reference, list, no_entries, entry, use_label, ensure_graph, ensure_node, ensure_property, add_entry, append_list, add_type, set_index}
 use Rattle.sum_model.specs.Sums.{Place, Placed, placed, PartEntry, bare, Sum, empty_sum, join, sum}
 use Rattle.sum_model.specs.Shards.{shard_of, in_shard, ops_in, part_in}
 

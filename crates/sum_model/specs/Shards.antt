@@ -1,7 +1,7 @@
 -- Shards: which of them a name, an operation and what a sum has of a node falls in.
 use Rattle.std.specs.Prelude.{ℕ, ◌+◌, ◌*◌, ◌%◌, ◌^◌, ◌==◌, List, [], ◌∷◌, Bool, false, filter}
-use Rattle.sum_model.specs.Names.{Name, iri, source, fresh}
-use Rattle.sum_model.specs.Ops.{Op, use_label, ensure_graph, ensure_node, ensure_property, add_entry, append_list, add_type, set_index}
+use Rattle.op_model.specs.Names.{Name, iri, source, fresh}
+use Rattle.op_model.specs.Ops.{Op, use_label, ensure_graph, ensure_node, ensure_property, add_entry, append_list, add_type, set_index}
 use Rattle.sum_model.specs.Sums.{Placed, Sum}
 
 -- [Ours] Numbers, folded from this one on, in 32 bits.

@@ -2,8 +2,8 @@
 use Rattle.std.specs.Prelude.{ℕ, ◌+◌, List, [], ◌∷◌, Bool, false, ◌&&◌, if◌then◌else◌, Option, Some, None}
 use Rattle.std.specs.Str.{bytes_eq}
 use Rattle.ld_model.specs.Tree.{same_tree}
-use Rattle.sum_model.specs.Names.{Name, same_name}
-use Rattle.sum_model.specs.Ops.{Entry, value, reference, list, Op, use_label, ensure_graph, ensure_node, ensure_property, add_entry, append_list, add_type, set_index}
+use Rattle.op_model.specs.Names.{Name, same_name}
+use Rattle.op_model.specs.Ops.{Entry, value, reference, list, Op, use_label, ensure_graph, ensure_node, ensure_property, add_entry, append_list, add_type, set_index}
 use Rattle.sum_model.specs.Joins.{lists_joined, maps_joined}
 
 -- Where an operation is: in which chunk of the document, and which of the operations of that chunk, counted from 0.

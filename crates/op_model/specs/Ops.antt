@@ -1,7 +1,7 @@
 -- Operations: what a step of node map generation does to the node map (JSON-LD 1.1 API, section 7.2), with names in place of labels.
 use Rattle.std.specs.Prelude.{ℕ, List, [], ◌∷◌}
 use Rattle.ld_model.specs.Tree.{Tree}
-use Rattle.sum_model.specs.Names.{Name}
+use Rattle.op_model.specs.Names.{Name}
 
 -- What stands under a property: a value object, a reference to a node, or a list of entries.
 mutual

@@ -1,0 +1,4 @@
+pub mod Names
+pub mod Ops
+pub mod Noting
+pub mod Running
