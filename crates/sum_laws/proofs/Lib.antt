@@ -3,3 +3,6 @@ pub mod Maps
 pub mod Same
 pub mod Sums
 pub mod Parts
+pub mod Once
+pub mod Read
+pub mod Determined

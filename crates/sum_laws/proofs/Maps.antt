@@ -2,6 +2,7 @@
 use Rattle.std.proofs.Common.{◌≡◌, List, [], ◌∷◌, ◌++◌, Bool, true, false, cond, not, Option, Some, None, is_some, refl, sym, ap, ap₂, ◌∙◌, subst, append-nil, append_assoc}
 use Rattle.std.proofs.lemmas.List.{map-append}
 use Rattle.std.specs.Prelude.{filter, option_map}
+use Rattle.std.specs.Option.{option_or}
 use Rattle.std.specs.Map.{lookup, keys_of}
 use Rattle.std.proofs.lemmas.List.Elements.{filter-append}
 use Rattle.std.proofs.lemmas.Map.Entries.{lookup-filter-keys}
@@ -9,11 +10,6 @@ use Rattle.std.proofs.lemmas.Map.Made.{is_some-lookup}
 use Rattle.sum_model.specs.Joins.{is_new, lists_joined, or_empty, value_at, values_joined, maps_joined}
 use Rattle.sum_laws.specs.Laws.{IsMonoid}
 use Rattle.sum_laws.proofs.Lists.{IsExact, filter_twice, filter_all, new_to_both}
-
--- The first of two values.
-abbrev first_of : {V : Type 0} → Option V → Option V → Option V
-first_of (Some v) later = Some v
-first_of None later = later
 
 module _ {K V : Type 0} where
   pub keys-filter : (p : K → Bool) (m : List (K × V)) → keys_of (filter (λ e. p e.0) m) ≡ filter p (keys_of m)
@@ -24,11 +20,11 @@ module _ {K V : Type 0} where
       by_test true rest = ap (λ l. e.0 ∷ l) rest
       by_test false rest = rest
 
-  lookup-append : (test : K → Bool) (a b : List (K × V)) → lookup test (a ++ b) ≡ first_of (lookup test a) (lookup test b)
+  lookup-append : (test : K → Bool) (a b : List (K × V)) → lookup test (a ++ b) ≡ option_or (lookup test a) (lookup test b)
   lookup-append test [] b = refl
   lookup-append test (e ∷ es) b = by_test (test e.0) (lookup-append test es b)
     where
-      by_test : (t : Bool) → lookup test (es ++ b) ≡ first_of (lookup test es) (lookup test b) → cond t (Some e.1) (lookup test (es ++ b)) ≡ first_of (cond t (Some e.1) (lookup test es)) (lookup test b)
+      by_test : (t : Bool) → lookup test (es ++ b) ≡ option_or (lookup test es) (lookup test b) → cond t (Some e.1) (lookup test (es ++ b)) ≡ option_or (cond t (Some e.1) (lookup test es)) (lookup test b)
       by_test true rest = refl
       by_test false rest = rest
 
@@ -64,13 +60,13 @@ module _ {K V : Type 0} (same : K → K → Bool) (exact : IsExact same) (empty 
   -- At each key a joined map has the join of what the two have there.
   pub at-joined : (k : K) (a b : List (K × V)) → value_at same empty k (maps_joined same empty join a b) ≡ join (value_at same empty k a) (value_at same empty k b)
   at-joined k a b =
-      ap (or_empty empty) (lookup-append (same k) (values_joined same empty join a b) rest ∙ ap (λ o. first_of o (lookup (same k) rest)) (lookup-values_joined k a b))
+      ap (or_empty empty) (lookup-append (same k) (values_joined same empty join a b) rest ∙ ap (λ o. option_or o (lookup (same k) rest)) (lookup-values_joined k a b))
       ∙ by_case (lookup (same k) a) refl
     where
       rest : List (K × V)
       rest = filter (λ e. is_new same (keys_of a) e.0) b
 
-      by_case : (o : Option V) → lookup (same k) a ≡ o → or_empty empty (first_of (option_map (λ v. join v (value_at same empty k b)) o) (lookup (same k) (filter (λ e. is_new same (keys_of a) e.0) b))) ≡ join (or_empty empty o) (value_at same empty k b)
+      by_case : (o : Option V) → lookup (same k) a ≡ o → or_empty empty (option_or (option_map (λ v. join v (value_at same empty k b)) o) (lookup (same k) (filter (λ e. is_new same (keys_of a) e.0) b))) ≡ join (or_empty empty o) (value_at same empty k b)
       by_case (Some v) is = refl
       by_case None is =
           let new : is_new same (keys_of a) k ≡ true = ap not (sym (is_some-lookup (same k) a) ∙ ap is_some is) in
