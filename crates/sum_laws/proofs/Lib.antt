@@ -6,3 +6,4 @@ pub mod Parts
 pub mod Once
 pub mod Read
 pub mod Determined
+pub mod Uses

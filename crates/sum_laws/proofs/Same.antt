@@ -1,13 +1,14 @@
 -- The tests of names, keys and entries.
-use Rattle.std.proofs.Common.{◌≡◌, ◌==◌, ◌&&◌, true, refl, sym, ap, ap₂, eqb-true, subst}
+use Rattle.std.proofs.Common.{◌≡◌, ◌==◌, ◌&&◌, true, false, refl, sym, ap, ap₂, eqb-true, subst}
 use Rattle.std.specs.Bool.{one_answer}
 use Rattle.std.proofs.lemmas.Bool.Decides.{Decides-eqb}
 use Rattle.ld_model.proofs.Puts.{bytes_eq-exact, bytes_eq-refl}
-use Rattle.ld_model.proofs.SameTree.{same_tree-exact, same_tree-sym}
+use Rattle.ld_model.proofs.SameTree.{same_tree-refl, same_tree-exact, same_tree-sym}
 use Rattle.ld_model.proofs.Truths.{both}
 use Rattle.op_model.specs.Names.{Name, iri, source, fresh, same_name}
 use Rattle.op_model.specs.Ops.{Entry, value, reference, list}
 use Rattle.sum_model.specs.Sums.{Key, same_key, same_entry}
+use Rattle.sum_laws.specs.Laws.{is_list, NamesAreToldApart, NodesAreToldApart, EntriesAreToldApart}
 use Rattle.sum_laws.proofs.Lists.{IsExact}
 
 pub same_name-exact : IsExact same_name
@@ -59,3 +60,26 @@ same_entry-sym (reference a) (list b) = refl
 same_entry-sym (list a) (value b) = refl
 same_entry-sym (list a) (reference b) = refl
 same_entry-sym (list a) (list b) = refl
+
+-- And each says yes of equal ones, but for lists.
+same_entry-no_list : (a b : Entry) → same_entry a b ≡ true → is_list a ≡ false
+same_entry-no_list (value a) b is = refl
+same_entry-no_list (reference a) b is = refl
+same_entry-no_list (list a) b is = absurd (cc)
+
+same_entry-itself : (a : Entry) → is_list a ≡ false → same_entry a a ≡ true
+same_entry-itself (value a) is = same_tree-refl a
+same_entry-itself (reference a) is = same_name-refl a
+same_entry-itself (list a) is = absurd (cc)
+
+pub names_are_told_apart : NamesAreToldApart
+names_are_told_apart a b = (same_name-exact a b, same_name-from a b)
+
+pub nodes_are_told_apart : NodesAreToldApart
+nodes_are_told_apart a b = (same_key-exact a b, λ is. subst (λ x. same_key a x ≡ true) is (same_key-refl a))
+
+pub entries_are_told_apart : EntriesAreToldApart
+entries_are_told_apart a b = (
+  λ is. (same_entry-exact a b is, same_entry-no_list a b is),
+  λ is. subst (λ x. same_entry a x ≡ true) is.0 (same_entry-itself a is.1),
+)

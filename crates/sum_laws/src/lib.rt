@@ -3,7 +3,7 @@
 //! There is no code here. Each function does nothing, and its contract is one law, which `specs/Laws.antt` and `specs/Said.antt` state.
 #![tactic(auto)]
 
-ghost use Rattle.sum_laws.specs.Laws.{JoinIsAMonoid, TheSumOfBothIsTheJoin, TheSumOfAShardIsItsPart};
+ghost use Rattle.sum_laws.specs.Laws.{EachNameHasAShard, EntriesAreToldApart, JoinIsAMonoid, NamesAreToldApart, NodesAreToldApart, TheSumOfAShardIsItsPart, TheSumOfBothIsTheJoin, TheUsesOfBothAreJoined};
 ghost use Rattle.sum_laws.specs.Said.{EntriesAreSaid, GraphsAreSaid, IndexesAreSaid, NodesAreSaid, NothingStandsTwice, OfEachSum, PropertiesAreSaid, TheSumIsWhatIsSaid, TypesAreSaid};
 
 /// However three sums are bracketed, their join is the same, and the empty sum joined to another leaves it as it is.
@@ -64,4 +64,30 @@ pub fn nothing_stands_twice()
 /// is their sum, and nothing else is.
 pub fn the_sum_is_what_is_said()
     ensures { TheSumIsWhatIsSaid }
+{}
+
+/// The shard of a name is one of those that there are.
+pub fn each_name_has_a_shard()
+    ensures { EachNameHasAShard }
+{}
+
+/// The names that need labels, in the order of first use, are joined as sums are: first those of one list, and then those of another that
+/// are new.
+pub fn the_uses_of_both_are_joined()
+    ensures { TheUsesOfBothAreJoined }
+{}
+
+/// The test of equal names is true exactly of equal ones.
+pub fn names_are_told_apart()
+    ensures { NamesAreToldApart }
+{}
+
+/// The test of equal nodes of graphs is true exactly where graph and node are equal.
+pub fn nodes_are_told_apart()
+    ensures { NodesAreToldApart }
+{}
+
+/// The test by which entries are kept once is true exactly of equal values and of equal references, and of no list.
+pub fn entries_are_told_apart()
+    ensures { EntriesAreToldApart }
 {}
