@@ -168,6 +168,13 @@ class Maker:
         return self.of(["@@", "", "@ "] if self.wrong() else ["@"]) \
             + "-".join(parts)
 
+    def datatype(self):
+        return self.of([self.label, self.string, self.tag, lambda: "^^"])() \
+            if self.wrong() else self.of([self.iriref] * 4 + [lambda: self.of([
+                "<http://www.w3.org/2001/XMLSchema#string>",
+                "<http://www.w3.org/2001/XMLSchema#\\u0073tring>",
+                "<http://www.w3.org/1999/02/22-rdf-syntax-ns#langString>"])])()
+
     # Lines.
 
     def terms(self):
@@ -179,7 +186,7 @@ class Maker:
         else:
             made.append(self.string())
             if share < 0.55:
-                made.extend(["^" if self.wrong() else "^^", self.iriref()])
+                made.extend(["^" if self.wrong() else "^^", self.datatype()])
             elif share < 0.7:
                 made.append(self.tag())
         if self.likely(0.4):
