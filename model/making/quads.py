@@ -1,4 +1,4 @@
-"""Files of N-Quads, good ones and faulty ones.
+"""Files of N-Quads, good ones and faulty ones, and lists of quads.
 
 A case is made from a seed and a number alone.  Terminals of every form are put
 together into lines; in most cases one of them is faulty, or the bytes of the
@@ -6,6 +6,8 @@ file are changed afterwards.
 """
 
 import random
+
+from quads import RDF_LANG_STRING, XSD_STRING, Blank, Iri, Literal, Quad
 
 RANGES = [
     (0x2D, 0x2E), (0x30, 0x3A), (0x41, 0x5A), (0x5F, 0x5F), (0x61, 0x7A),
@@ -266,6 +268,108 @@ def case(seed, number):
     for _ in range(maker.of([1, 1, 1, 2, 3])):
         data = change(maker, data)
     return "changed", data
+
+
+# Lists of quads that are valid, and unusual ways to write them.
+
+XSD = "http://www.w3.org/2001/XMLSchema#"
+
+
+class Lister(Maker):
+    """Makes quads; `bad` is how likely a name or text is an unusual one."""
+
+    def free(self, codes=None):
+        code = self.of(codes or CODES) if self.likely(0.7) else self.code()
+        return chr(code)
+
+    def name(self):
+        if not self.wrong():
+            return Iri(self.of(["http://e/", "urn:x:", "http://e/v#"])
+                       + self.of("abcdefgh") + str(self.times(30)))
+        part = "".join(self.free() for _ in range(self.times(4)))
+        return Iri(self.of(["a:", "http://e/", "x+y.z-0:", "http:", "Z9::"])
+                   + "".join(one for one in part
+                             if one > " " and one not in "<>\"{}|^`\\"))
+
+    def blank(self):
+        if not self.wrong():
+            return Blank("_:" + self.of(["b", "x", "node", "c"])
+                         + str(self.times(30)))
+        made = "_:" + self.of("a0_:\u00c0\u0370\u200c\u3001\uf900\U00010000")
+        for _ in range(self.times(4)):
+            made += self.of("a0_:.-\u00b7\u0300\u203f\u00e9\u3001\U000effff")
+        return Blank(made.rstrip("."))
+
+    def node(self):
+        return self.name() if self.likely(0.6) else self.blank()
+
+    def literal(self):
+        text = self.of(["", "x", "two words", "3", "a.b", "# no comment"])
+        if self.wrong():
+            text = "".join(self.free() for _ in range(self.times(6)))
+        elif self.likely(0.3):
+            text += self.of(["\"", "\\", "\n", "\r", "\t", "\u00e9", "\u4e2d",
+                             "\U0001F600", "'", "\\n", "\r\n"])
+        share = self.rng.random()
+        if share < 0.5:
+            return Literal(text, XSD_STRING, None)
+        if share < 0.7:
+            return Literal(text, RDF_LANG_STRING, self.of(
+                ["en", "de-419", "en-us", "zh-hant-tw"]) if not self.wrong()
+                else self.of(["EN", "en-US", "x-1-2-3", "a", "abcdefghijk",
+                              "de-1", "i-a-b-c9"]))
+        return Literal(text, self.of(
+            [XSD + "integer", XSD + "date", RDF_LANG_STRING, "urn:d"])
+            if not self.wrong() else self.name().text, None)
+
+    def quad(self):
+        thing = self.literal() if self.likely(0.55) else self.node()
+        return Quad(self.node(), self.name(), thing,
+                    self.node() if self.likely(0.4) else None)
+
+    # The same quads, written in another way.
+
+    def escaped(self, text, first, must):
+        """The text from `first` on with escapes, some of which must be."""
+        made = text[:first]
+        for one in text[first:]:
+            made += self.uchar(ord(one)) if one in must or self.likely(0.2) \
+                else one
+        return made
+
+    def term(self, term):
+        bad, self.bad = self.bad, 0.0
+        if type(term) is Blank:
+            made = term.label + self.of([" ", "\t"])
+        elif type(term) is Iri:
+            made = "<%s>" % self.escaped(
+                term.text, term.text.index(":") + self.times(1), "")
+        else:
+            made = '"%s"' % self.escaped(term.lexical, 0, '"\\\n\r')
+            if term.language is not None:
+                made += self.of(GAPS) + "@" + term.language + " "
+            elif term.datatype != XSD_STRING or self.likely(0.3):
+                made += self.of(GAPS) + "^^" + self.of(GAPS) \
+                    + self.term(Iri(term.datatype))
+        self.bad = bad
+        return made + self.of(GAPS)
+
+    def loosely(self, quads):
+        """Bytes that are read as these quads."""
+        made = ""
+        for quad in quads:
+            made += self.of(["", " ", "\t", "# c\n", "\r\n", " \n"])
+            made += "".join(self.term(term) for term in quad if term)
+            made += "." + self.of(["\n", "\r", "\r\n", " # c\n", "#\n"])
+        return made.encode("utf-8")
+
+
+def quad_list(seed, number):
+    """A list of valid quads, and bytes that are read as these."""
+    rng = random.Random("list %d:%d" % (seed, number))
+    lister = Lister(rng, 0.0 if rng.random() < 0.5 else 0.05)
+    quads = [lister.quad() for _ in range(lister.times(12))]
+    return quads, lister.loosely(quads)
 
 
 # Whole ranges: the text is tried with every byte or character for `@@`.
