@@ -6,8 +6,12 @@ the time of `canonical` has the reading of the document in it. `read` reads a do
 number. `load` reads a folder of 100 contexts, each of 100 terms,
 and looks their IRIs up. `process` reads a context and processes it, and `copy` does the same and then copies the outcome
 100,000 times. Prints one table.
+
+calls.py PROGRAM quads [BYTES ..] measures reading N-Quads alone (`lines`) and reading and writing them again (`quads`), beside
+`serdi -i nquads -o nquads` on the same file, where it is installed. `serdi -b` writes in blocks.
 """
 import os
+import shutil
 import subprocess
 import sys
 import tempfile
@@ -52,12 +56,28 @@ def fill(folder, count, terms):
     return iris
 
 
+def quads(program, path, sizes):
+    """Rows for N-Quads of about these sizes."""
+    serdi = ["serdi", "-i", "nquads", "-o", "nquads"]
+    for size in sizes:
+        with open(path, "wb") as out:
+            subprocess.run([sys.executable, os.path.join(HERE, "quads.py"), str(size)], stdout=out, check=True)
+        for call in ("lines", "quads"):
+            show(program, call, "quads", path)
+        if shutil.which("serdi"):
+            row("serdi", "quads", path, [*serdi, path])
+            row("serdi -b", "quads", path, [*serdi, "-b", path])
+
+
 def main():
     program = os.path.abspath(sys.argv[1])
     print("%s, %d processors" % (processor(), os.cpu_count()))
     print("%12s %12s %12s %9s %9s %9s" % ("call", "of", "bytes", "wall s", "cpu s", "peak MB"))
     with tempfile.TemporaryDirectory() as folder:
         path = os.path.join(folder, "input")
+        if sys.argv[2:3] == ["quads"]:
+            quads(program, path, [int(word) for word in sys.argv[3:]] or [10**6, 10**7, 10**8])
+            return
         for count in (10**4, 10**5, 10**6):
             with open(path, "w") as out:
                 out.writelines(line + "\n" for line in references(count))
@@ -83,8 +103,12 @@ def main():
 
 
 def show(program, call, of, path, *words):
-    wall, cpu, peak = measure([program, call, *words], path)
-    print("%12s %12s %12d %9.3f %9.3f %9.1f" % (call, of, os.path.getsize(path), wall, cpu, peak / 1e6))
+    row(call, of, path, [program, call, *words])
+
+
+def row(call, of, path, command):
+    wall, cpu, peak = measure(command, path)
+    print("%12s %12s %12d %9.3f %9.3f %9.1f" % (call, of, os.path.getsize(path), wall, cpu, peak / 1e6), flush=True)
 
 
 main()
