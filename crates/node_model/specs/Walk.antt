@@ -138,13 +138,13 @@ abbrev mutual
   walk p g to (object ms) w =
       if has_key value_key ms then value_into p g to (p.value (object ms)) w
       else if has_key list_key ms then
-        (if takes_values to then list_held p g to w (walk_at p g in_list list_key ms (record { state = w.state; items = [] })) else w)
+      (if takes_values to then list_held p g to w (walk_at p g in_list list_key ms (record { state = w.state; items = [] })) else w)
       else
-        let node = entered p g to ms w in
-        let turned = walk_reverse p g node.0 ms node.1 in
-        let inside = walk_at p node.0 nowhere graph_key ms (with_graph p node.0 ms turned) in
-        let included = walk_at p g nowhere included_key ms inside in
-        walk_properties p g node.0 ms included
+      let node = entered p g to ms w in
+      let turned = walk_reverse p g node.0 ms node.1 in
+      let inside = walk_at p node.0 nowhere graph_key ms (with_graph p node.0 ms turned) in
+      let included = walk_at p g nowhere included_key ms inside in
+      walk_properties p g node.0 ms included
   walk p g to t w = w
 
   -- The items of an array (step 1).
