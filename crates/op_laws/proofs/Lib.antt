@@ -10,3 +10,4 @@ mod Numbered
 mod Apart
 mod Read
 mod Told
+mod Sound
