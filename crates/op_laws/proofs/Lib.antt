@@ -11,3 +11,5 @@ mod Apart
 mod Read
 mod Told
 mod Sound
+mod FirstConflict
+mod Examples

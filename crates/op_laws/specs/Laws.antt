@@ -10,7 +10,7 @@ use Rattle.op_model.specs.Noting.{range, top_range, place_of_items, ops_of, ops_
 use Rattle.op_model.specs.Running.{used, label_in, entry_in, uses_of_all, labelled, apply_all, Run, run, before}
 use Rattle.op_laws.specs.Words.{is_known, IsPlaceKnown, place_in, IsReady}
 use Rattle.op_laws.specs.Own.{HasOwn, EntryHasOwn}
-use Rattle.op_laws.specs.Told.{AreTold}
+use Rattle.op_laws.specs.Told.{AreTold, conflict_told}
 use Rattle.op_laws.specs.Sound.{IsSoundName, IsSoundPlace, IsSound}
 
 -- The items of a document, divided into chunks in any way: the operations of these, run one after another, come to the state of
@@ -47,6 +47,10 @@ EntriesAreToldApart = (names : List Name) (e f : Entry) → length names ≤ 2 ^
 -- The node map has what the operations tell, and nothing else.
 abbrev pub NodeMapsAreTold : Type 0
 NodeMapsAreTold = (os : List Op) → AreTold (used [] (uses_of_all os)) os (run os before).state.graphs
+
+-- The conflict is the first index that is set on a node to which the operations before it gave another one.
+abbrev pub TheFirstConflictIsTold : Type 0
+TheFirstConflictIsTold = (os : List Op) → (run os before).state.conflict ≡ conflict_told (used [] (uses_of_all os)) [] os
 
 -- Operations that are noted have their form, if the graph and the place do.
 abbrev pub OperationsAreSound : Type 0
