@@ -10,3 +10,6 @@ mod Numbered
 mod Apart
 mod Read
 mod Told
+mod Sound
+mod FirstConflict
+mod Examples

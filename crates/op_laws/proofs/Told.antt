@@ -173,7 +173,7 @@ is_default g = ap is_some (default_alone g) ∙ by_test (bytes_eq g default_grap
     by_test true = refl
     by_test false = refl
 
-told_from_empty : (names : List Name) (os : List Op) (s : State) → s.graphs ≡ empty.graphs → AreTold names os (apply_all names os s).graphs
+pub told_from_empty : (names : List Name) (os : List Op) (s : State) → s.graphs ≡ empty.graphs → AreTold names os (apply_all names os s).graphs
 told_from_empty names os s is = record {
   graph = λ g. graphs_told names g os s ∙ ap (λ graphs. list_any (is_of_graph names g) os || is_some (at g graphs)) is ∙ ap (λ b. list_any (is_of_graph names g) os || b) (is_default g);
   node = λ g id. all_there names g id os s ∙ ap (λ graphs. list_any (is_of_node names g id) os || is_some (at id (graph_in g graphs))) is

@@ -1,6 +1,6 @@
 -- The laws of operations.
 use Rattle.std.specs.Prelude.{ℕ, ◌+◌, ◌^◌, ◌≡◌, ◌≤◌, List, [], length, Bool, true, Option, map as each}
-use Rattle.std.specs.List.{flat_map}
+use Rattle.std.specs.List.{flat_map, AllByRecursion}
 use Rattle.ld_model.specs.Tree.{Tree, array, trees_of}
 use Rattle.node_model.specs.Walk.{walk}
 use Rattle.node_model.specs.Generating.{generating, empty, walked}
@@ -10,7 +10,8 @@ use Rattle.op_model.specs.Noting.{range, top_range, place_of_items, ops_of, ops_
 use Rattle.op_model.specs.Running.{used, label_in, entry_in, uses_of_all, labelled, apply_all, Run, run, before}
 use Rattle.op_laws.specs.Words.{is_known, IsPlaceKnown, place_in, IsReady}
 use Rattle.op_laws.specs.Own.{HasOwn, EntryHasOwn}
-use Rattle.op_laws.specs.Told.{AreTold}
+use Rattle.op_laws.specs.Told.{AreTold, conflict_told}
+use Rattle.op_laws.specs.Sound.{IsSoundName, IsSoundPlace, IsSound}
 
 -- The items of a document, divided into chunks in any way: the operations of these, run one after another, come to the state of
 -- generation after the whole document.
@@ -46,3 +47,13 @@ EntriesAreToldApart = (names : List Name) (e f : Entry) → length names ≤ 2 ^
 -- The node map has what the operations tell, and nothing else.
 abbrev pub NodeMapsAreTold : Type 0
 NodeMapsAreTold = (os : List Op) → AreTold (used [] (uses_of_all os)) os (run os before).state.graphs
+
+-- The conflict is the first index that is set on a node to which the operations before it gave another one.
+abbrev pub TheFirstConflictIsTold : Type 0
+TheFirstConflictIsTold = (os : List Op) → (run os before).state.conflict ≡ conflict_told (used [] (uses_of_all os)) [] os
+
+-- Operations that are noted have their form, if the graph and the place do.
+abbrev pub OperationsAreSound : Type 0
+OperationsAreSound =
+    (number : ℕ) (items : List Tree) (graph : Name) (subject property : Option Name) (reversed : Bool)
+    → IsSoundName graph → IsSoundPlace (place_of_items subject property reversed) → AllByRecursion IsSound (ops_of number (range items graph subject property reversed))

@@ -1,11 +1,12 @@
 -- What operations tell of a node map, read off them one by one, under labels that were numbered before.
-use Rattle.std.specs.Prelude.{ℕ, ◌≡◌, List, [], ◌∷◌, Bool, false, ◌&&◌, ◌||◌, if◌then◌else◌, Option, Some, None, is_some}
+use Rattle.std.specs.Prelude.{ℕ, ◌≡◌, List, [], ◌∷◌, ◌++◌, Bool, false, ◌&&◌, ◌||◌, if◌then◌else◌, Option, Some, None, is_some}
+use Rattle.std.specs.Option.{option_or}
 use Rattle.std.specs.Str.{bytes_eq}
 use Rattle.std.specs.List.{list_any}
 use Rattle.ld_model.specs.Tree.{Tree}
 use Rattle.ld_model.specs.Keys.{default_graph}
 use Rattle.node_model.specs.Maps.{at}
-use Rattle.node_model.specs.NodeMap.{Node, Graphs, new_node, graph_in, node_in, entries_in, list_object, told, on_entries, with_type, with_index}
+use Rattle.node_model.specs.NodeMap.{Node, Graphs, Conflict, new_node, graph_in, node_in, entries_in, list_object, told, on_entries, with_type, with_index}
 use Rattle.op_model.specs.Names.{Name}
 use Rattle.op_model.specs.Ops.{Op, use_label, ensure_graph, ensure_node, ensure_property, add_entry, append_list, add_type, set_index}
 use Rattle.op_model.specs.Running.{label_in, entry_in, entries_in as items_in}
@@ -74,3 +75,18 @@ pub record AreTold (names : List Name) (os : List Op) (graphs : Graphs) : Type 0
   pub node : (g id : List ℕ) → is_some (at id (graph_in g graphs)) ≡ list_any (is_of_node names g id) os
   pub content : (g id : List ℕ) → node_in id (graph_in g graphs) ≡ node_told names g id os new_node
   pub entries : (g id property : List ℕ) → entries_in property (node_in id (graph_in g graphs)).properties ≡ entries_told names g id property os []
+
+-- An index that differs from the one that the node has.
+abbrev pub index_conflict : Option (List ℕ) → List ℕ → List ℕ → Option Conflict
+index_conflict (Some first) id index = if bytes_eq first index then None else Some (record { node = id; first = first; second = index })
+index_conflict None id index = None
+
+-- The conflict of an operation that comes after these.
+abbrev pub conflict_of : List Name → List Op → Op → Option Conflict
+conflict_of names earlier (set_index g n i) = index_conflict (node_told names (label_in names g) (label_in names n) earlier new_node).index (label_in names n) i
+conflict_of names earlier _ = None
+
+-- The first conflict of operations that come after these.
+abbrev pub conflict_told : List Name → List Op → List Op → Option Conflict
+conflict_told names earlier [] = None
+conflict_told names earlier (o ∷ os) = option_or (conflict_of names earlier o) (conflict_told names (earlier ++ o ∷ []) os)

@@ -4,7 +4,7 @@
 //! There is no code here. Each function does nothing, and its contract is one law, which `specs/Laws.antt` states.
 #![tactic(auto)]
 
-ghost use Rattle.op_laws.specs.Laws.{ARangeRunsAnywhere, EntriesAreToldApart, FirstUsesAreEnough, LabelsCanBeNumberedFirst, NamesAreToldApart, NodeMapsAreTold, OperationsAreGeneration};
+ghost use Rattle.op_laws.specs.Laws.{ARangeRunsAnywhere, EntriesAreToldApart, FirstUsesAreEnough, LabelsCanBeNumberedFirst, NamesAreToldApart, NodeMapsAreTold, OperationsAreGeneration, OperationsAreSound, TheFirstConflictIsTold};
 
 /// The operations of a document's chunks, run one after another, come to what node map generation comes to (JSON-LD 1.1 API, section
 /// 7.2): the same node map, the same labels, as many of them, and the same first conflict of indexes. This holds of any list of trees and
@@ -53,4 +53,17 @@ pub fn entries_are_told_apart()
 /// that is appended there, in their order.
 pub fn node_maps_are_told()
     ensures { NodeMapsAreTold }
+{}
+
+/// The first conflict is that of the first operation that sets an index on a node to which an earlier one gave a different index (JSON-LD
+/// 1.1 API, section 7.2, step 6.8); and it names that node and both indexes.
+pub fn the_first_conflict_is_told()
+    ensures { TheFirstConflictIsTold }
+{}
+
+/// The operations of a range of items have their due form, where the names of its graph, subject and property have it: no IRI in them is
+/// the label of a blank node, no property is a keyword, and each value is a value object. So has what is noted of a document's own items:
+/// the name of the default graph is such a name, and there is no subject.
+pub fn operations_are_sound()
+    ensures { OperationsAreSound }
 {}
