@@ -1,8 +1,10 @@
 //! Laws of sums of operations, as `sum_model` defines them.
 //!
-//! There is no code here. Each function does nothing, and its contract is one law, which `specs/Laws.antt` and `specs/Said.antt` state.
+//! There is no code here. Each function does nothing, and its contract is one law, which a file of `specs/` states:
+//! `Laws.antt` those of joining, `Said.antt` what a sum has in it, and `Conflicts.antt` which conflict of indexes is the first.
 #![tactic(auto)]
 
+ghost use Rattle.sum_laws.specs.Conflicts.{ChunksAreInOrder, TheFirstConflictComesFirst};
 ghost use Rattle.sum_laws.specs.Laws.{EachNameHasAShard, EntriesAreToldApart, JoinIsAMonoid, NamesAreToldApart, NodesAreToldApart, TheSumOfAShardIsItsPart, TheSumOfBothIsTheJoin, TheUsesOfBothAreJoined};
 ghost use Rattle.sum_laws.specs.Said.{EntriesAreSaid, GraphsAreSaid, IndexesAreSaid, NodesAreSaid, NothingStandsTwice, OfEachSum, PropertiesAreSaid, TheSumIsWhatIsSaid, TypesAreSaid};
 
@@ -90,4 +92,15 @@ pub fn nodes_are_told_apart()
 /// The test by which entries are kept once is true exactly of equal values and of equal references, and of no list.
 pub fn entries_are_told_apart()
     ensures { EntriesAreToldApart }
+{}
+
+/// Where operations come in the order of their places, the first conflict in their sum is the first that any of them makes: it sets an
+/// index of a node whose index was first set to another one (JSON-LD 1.1 API, section 7.2, step 6.8).
+pub fn the_first_conflict_comes_first()
+    ensures { TheFirstConflictComesFirst }
+{}
+
+/// The operations of chunks, one chunk after another, come in the order of their places.
+pub fn chunks_are_in_order()
+    ensures { ChunksAreInOrder }
 {}
