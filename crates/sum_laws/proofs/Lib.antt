@@ -10,3 +10,4 @@ pub mod Uses
 pub mod Places
 pub mod Befores
 pub mod Conflicts
+pub mod Steps
