@@ -65,7 +65,7 @@ conflict_joined at n (Some j) None = sym (or_none (conflict_of n (Some j)))
 conflict_joined at n (Some j) (Some i) = second_set at n j.text i j.conflict
 
 -- The conflict, if there is one, is at this place.
-abbrev IsAt : Place → Option ConflictAt → Type 0
+abbrev pub IsAt : Place → Option ConflictAt → Type 0
 IsAt at None = ⊤
 IsAt at (Some c) = c.place ≡ at
 

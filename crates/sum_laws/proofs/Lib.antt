@@ -11,3 +11,4 @@ pub mod Places
 pub mod Befores
 pub mod Conflicts
 pub mod Steps
+pub mod ShardConflicts

@@ -1,13 +1,13 @@
 -- The first conflict of indexes, as operations come one after another.
-use Rattle.std.specs.Prelude.{◌≡◌, List, [], ◌∷◌, ◌++◌, true, if◌then◌else◌, Option, Some, None, ⊤, flat_map}
+use Rattle.std.specs.Prelude.{ℕ, zero, suc, ◌≡◌, ◌<◌, List, [], ◌∷◌, ◌++◌, true, if◌then◌else◌, Option, Some, None, ⊤, flat_map}
 use Rattle.std.specs.List.{AllByRecursion}
 use Rattle.std.specs.Option.{option_or}
-use Rattle.std.specs.Prelude.{ℕ}
 use Rattle.std.specs.Str.{bytes_eq}
 use Rattle.op_model.specs.Names.{Name}
 use Rattle.op_model.specs.Ops.{Op, set_index}
-use Rattle.sum_model.specs.Sums.{Place, Placed, placed_chunks, sum}
-use Rattle.sum_model.specs.Conflicts.{ConflictAt, is_before, first_conflict}
+use Rattle.sum_model.specs.Sums.{Place, Placed, placed_chunks, Sum, sum}
+use Rattle.sum_model.specs.Conflicts.{ConflictAt, is_before, earlier, first_conflict}
+use Rattle.sum_model.specs.Shards.{in_shard, part_in}
 use Rattle.sum_laws.specs.Said.{index_set}
 
 -- Each operation's place comes before those of the operations after it.
@@ -36,3 +36,11 @@ TheFirstConflictComesFirst = (os : List Placed) → AreInOrder os → first_conf
 -- The operations of chunks come in the order of their places.
 abbrev pub ChunksAreInOrder : Type 0
 ChunksAreInOrder = (chunks : List (List Op)) → AreInOrder (placed_chunks 0 chunks)
+
+-- The earliest of the first conflicts that a sum has in the shards before this one, of so many.
+abbrev pub first_of_shards : ℕ → ℕ → Sum → Option ConflictAt
+first_of_shards shards zero s = None
+first_of_shards shards (suc k) s = earlier (first_of_shards shards k s) (first_conflict (part_in (in_shard shards k) s))
+
+abbrev pub TheFirstConflictIsThatOfAShard : Type 0
+TheFirstConflictIsThatOfAShard = (shards : ℕ) → 0 < shards → (os : List Placed) → AreInOrder os → first_of_shards shards shards (sum os) ≡ first_conflict (sum os)

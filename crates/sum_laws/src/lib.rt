@@ -4,7 +4,7 @@
 //! `Laws.antt` those of joining, `Said.antt` what a sum has in it, and `Conflicts.antt` which conflict of indexes is the first.
 #![tactic(auto)]
 
-ghost use Rattle.sum_laws.specs.Conflicts.{ChunksAreInOrder, TheFirstConflictComesFirst};
+ghost use Rattle.sum_laws.specs.Conflicts.{ChunksAreInOrder, TheFirstConflictComesFirst, TheFirstConflictIsThatOfAShard};
 ghost use Rattle.sum_laws.specs.Laws.{EachNameHasAShard, EntriesAreToldApart, JoinIsAMonoid, NamesAreToldApart, NodesAreToldApart, TheSumOfAShardIsItsPart, TheSumOfBothIsTheJoin, TheUsesOfBothAreJoined};
 ghost use Rattle.sum_laws.specs.Said.{EntriesAreSaid, GraphsAreSaid, IndexesAreSaid, NodesAreSaid, NothingStandsTwice, OfEachSum, PropertiesAreSaid, TheSumIsWhatIsSaid, TypesAreSaid};
 
@@ -103,4 +103,9 @@ pub fn the_first_conflict_comes_first()
 /// The operations of chunks, one chunk after another, come in the order of their places.
 pub fn chunks_are_in_order()
     ensures { ChunksAreInOrder }
+{}
+
+/// The earliest, by place, of the first conflicts that the shards of a sum have is the first conflict in the sum.
+pub fn the_first_conflict_is_that_of_a_shard()
+    ensures { TheFirstConflictIsThatOfAShard }
 {}
