@@ -15,7 +15,7 @@ use Rattle.node_model.specs.NodeMap.{Node, Graph, Graphs, Conflict}
 use Rattle.node_model.specs.AsTrees.{index_put, types_put, properties_put, node_members, node_pair, graph_pair, graph_pairs}
 use Rattle.node_model.specs.Generating.{State, Generated, outcome, walked}
 use Rattle.node_model.specs.DueForm.{is_text, are_entries, is_node_entry, is_node, is_graph, has_due_form}
-use Rattle.node_laws.specs.Laws.{IsNodeInOrder, IsGraphInOrder, NodeMapsHaveTheDueForm}
+use Rattle.node_laws.specs.Laws.{IsNodeInOrder, IsGraphInOrder, IsInForm, NodeMapsHaveTheDueForm}
 use Rattle.node_laws.proofs.Maps.{keys_of-as_members, member_at-as_members}
 use Rattle.node_laws.proofs.Shape.{IsProperty, IsNode, IsGraph, IsMap, entries_are, walked_is}
 
@@ -31,10 +31,10 @@ keyword_apart k p word apart = by_test (bytes_eq k p) refl
     by_test false other = refl
 
 -- The members of a node, as they are made.
-record IsDue (id : List ℕ) (ms : Pairs) : Type 0 where
-  ascend : AreAscending ms
-  id_at : member_at id_key ms ≡ Some (text id)
-  each : AllByRecursion (λ m. is_node_entry id m ≡ true) ms
+pub record IsDue (id : List ℕ) (ms : Pairs) : Type 0 where
+  pub ascend : AreAscending ms
+  pub id_at : member_at id_key ms ≡ Some (text id)
+  pub each : AllByRecursion (λ m. is_node_entry id m ≡ true) ms
 
 put_is : (id k : List ℕ) (t : Tree) (ms : Pairs) → bytes_eq id_key k ≡ false → is_node_entry id (k, t) ≡ true → IsDue id ms → IsDue id (put k t ms)
 put_is id k t ms apart entry is = record {
@@ -75,7 +75,7 @@ properties_is id (p ∷ ps) ms all is =
     properties_is id ps (put p.0 (array (trees_of p.1)) ms) all.1
     (put_is id p.0 (array (trees_of p.1)) ms (keyword_apart id_key p.0 refl all.0.0) (property_is id p.0 p.1 all.0.0 (entries_are p.1 all.0.1)) is)
 
-members_are : (id : List ℕ) (n : Node) → IsNode n → IsDue id (node_members id n)
+pub members_are : (id : List ℕ) (n : Node) → IsNode n → IsDue id (node_members id n)
 members_are id n node = properties_is id n.properties _ node.each (types_is id n.types _ (index_is id n.index _ (id_is id)))
 
 -- A node, a graph and the node map.
@@ -131,6 +131,9 @@ given None s m is = cc
 pub node_maps_have_the_due_form : NodeMapsHaveTheDueForm
 node_maps_have_the_due_form ts m is =
     let map = walked_is ts in
-    subst (λ (m : Generated). (has_due_form m.graphs ≡ true) × AreAscending m.graphs × AllByRecursion IsGraphInOrder m.graphs)
-    (given (walked ts).conflict (walked ts) m is)
-    (map_is_due (walked ts).graphs map, map_in_order (walked ts).graphs map, graphs_are IsGraphInOrder graph_in_order (walked ts).graphs map.each)
+    subst (λ (m : Generated). IsInForm m.graphs) (given (walked ts).conflict (walked ts) m is)
+    (record {
+      form = map_is_due (walked ts).graphs map;
+      ascend = map_in_order (walked ts).graphs map;
+      each = graphs_are IsGraphInOrder graph_in_order (walked ts).graphs map.each;
+    })

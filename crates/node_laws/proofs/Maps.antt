@@ -1,6 +1,6 @@
 -- Maps from texts: what stands at a key once something is put at one, what holds of all that is in a map, and a map that is
 -- turned into the members of an object.
-use Rattle.std.proofs.Common.{◌≡◌, ℕ, List, [], ◌∷◌, Bool, true, false, cond, Some, Ordering, Less, Equal, Greater, refl, sym, ap, ◌∙◌, subst}
+use Rattle.std.proofs.Common.{◌≡◌, ℕ, List, [], ◌∷◌, Bool, true, false, cond, Some, None, Ordering, Less, Equal, Greater, refl, sym, ap, ◌∙◌, subst}
 use Rattle.std.specs.Prelude.{map as each}
 use Rattle.std.specs.Ordering.{is_eq, match_ordering}
 use Rattle.std.specs.Option.{option_map}
@@ -12,7 +12,7 @@ use Rattle.std.proofs.lemmas.Cmp.{nat_list_cmp_total}
 use Rattle.std.proofs.lemmas.Map.Lookups.{exact_bytes}
 use Rattle.std.proofs.lemmas.Map.Text.{is_eq-slice_cmp}
 use Rattle.ld_model.specs.Tree.{Tree, Pairs, byte_order, member_at, put, IsBefore}
-use Rattle.ld_model.proofs.Puts.{bytes_eq-refl, bytes_eq-exact, flipped, at_first as member_first, at_later as member_later}
+use Rattle.ld_model.proofs.Puts.{bytes_eq-refl, bytes_eq-exact, apart_before, flipped, at_first as member_first, at_later as member_later}
 use Rattle.node_model.specs.Maps.{MapOf, at, with_at}
 
 -- Each key comes before those after it.
@@ -118,6 +118,25 @@ module _ {V : Type 0} where
       by_order Equal is rest = subst Ascend (sym (with_at_first k v e m Equal is)) (ascend_cons (e.0, v) m (ascend_head e m sorted) (ascend_tail e m sorted))
       by_order Greater is rest =
           subst Ascend (sym (with_at_first k v e m Greater is)) (ascend_cons e (with_at k v m) (keys-with_at (IsBefore e.0) k v m (flipped k e.0 Greater is) (ascend_head e m sorted)) rest)
+
+  -- Nothing stands at a key before all others, and what stands at a key, put there again, changes nothing.
+  pub none_before : (k : List ℕ) (m : MapOf V) → AllByRecursion (IsBefore k) (keys_of m) → at k m ≡ None
+  none_before k [] all = refl
+  none_before k (e ∷ m) all = at_later k e m (apart_before k e.0 all.0) ∙ none_before k m all.1
+
+  pub with_at-same : (k : List ℕ) (v : V) (m : MapOf V) → Ascend m → at k m ≡ Some v → with_at k v m ≡ m
+  with_at-same k v [] sorted is = absurd (cc)
+  with_at-same k v (e ∷ m) sorted is = by_order (byte_order k e.0) refl (with_at-same k v m (ascend_tail e m sorted))
+    where
+      by_order : (o : Ordering) → byte_order k e.0 ≡ o → (at k m ≡ Some v → with_at k v m ≡ m) → with_at k v (e ∷ m) ≡ e ∷ m
+      by_order Less order rest =
+          let none : at k (e ∷ m) ≡ None = none_before k (e ∷ m) (order, before_all k e.0 m order (ascend_head e m sorted)) in
+          absurd (let no_way : None ≡ Some v = sym none ∙ is in cc)
+      by_order Equal order rest =
+          let value : Some e.1 ≡ Some v = sym (at_first k e m (sym (is_eq-slice_cmp k e.0) ∙ ap is_eq order)) ∙ is in
+          let same : v ≡ e.1 = cc in
+          with_at_first k v e m Equal order ∙ ap (λ x. (e.0, x) ∷ m) same
+      by_order Greater order rest = with_at_first k v e m Greater order ∙ ap (λ l. e ∷ l) (rest (sym (at_later k e m (sym (is_eq-slice_cmp k e.0) ∙ ap is_eq order)) ∙ is))
 
   -- A map as the members of an object.
   module _ (shown : List ℕ → V → Tree) where

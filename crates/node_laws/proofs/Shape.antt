@@ -15,6 +15,7 @@ use Rattle.node_model.specs.NodeMap.{Node, Graph, Graphs, new_node, node_or_new,
 use Rattle.node_model.specs.Generating.{State, generating, index_by, empty, walked}
 use Rattle.node_model.specs.DueForm.{is_entry, are_entries}
 use Rattle.node_model.specs.Walk.{nowhere}
+use Rattle.node_laws.proofs.Lists.{all_last}
 use Rattle.node_laws.proofs.Maps.{Ascend, at-with_at, at-with_at_other, all-with_at, all-at, ascend_none, ascend_cons, ascend-with_at}
 use Rattle.node_laws.proofs.Likeness.{Likeness, Pairwise, Reach, AnswerAlike, lasts_here}
 use Rattle.node_laws.proofs.Alike.{all_beside}
@@ -43,7 +44,7 @@ pub record IsMap (graphs : Graphs) : Type 0 where
 new_node_is : IsNode new_node
 new_node_is = record { ascend = ascend_none (List Tree); each = tt }
 
-no_nodes : IsGraph []
+pub no_nodes : IsGraph []
 no_nodes = record { ascend = ascend_none Node; each = tt }
 
 -- What a look-up finds, or what is made where it finds nothing.
@@ -80,33 +81,29 @@ on_graph_is g change graphs keeps map = record {
     by_name true same = subst (λ x. is_some (at x (on_graph g change graphs)) ≡ true) (sym (bytes_eq-exact default_graph g same)) (ap is_some (at-with_at g (change (graph_in g graphs)) graphs))
     by_name false apart = ap is_some (at-with_at_other default_graph g (change (graph_in g graphs)) graphs apart) ∙ map.default
 
-pub on_node_is : (g id : List ℕ) (change : Node → Node) (graphs : Graphs) → ((n : Node) → IsNode n → IsNode (change n)) → IsMap graphs → IsMap (on_node g id change graphs)
-on_node_is g id change graphs keeps map = on_graph_is g (with_node id change) graphs inside map
-  where
-    inside : (nodes : Graph) → IsGraph nodes → IsGraph (with_node id change nodes)
-    inside nodes graph = record {
-      ascend = ascend-with_at id (change (node_in id nodes)) nodes graph.ascend;
-      each = all-with_at (λ e. IsNode e.1) id (change (node_in id nodes)) nodes (keeps (node_in id nodes) (node_in_is id nodes graph)) graph.each;
-    }
+pub with_node_is : (id : List ℕ) (change : Node → Node) (nodes : Graph) → ((n : Node) → IsNode n → IsNode (change n)) → IsGraph nodes → IsGraph (with_node id change nodes)
+with_node_is id change nodes keeps graph = record {
+  ascend = ascend-with_at id (change (node_in id nodes)) nodes graph.ascend;
+  each = all-with_at (λ e. IsNode e.1) id (change (node_in id nodes)) nodes (keeps (node_in id nodes) (node_in_is id nodes graph)) graph.each;
+}
 
-on_entries_is : (property : List ℕ) (change : List Tree → List Tree) → is_keyword property ≡ false → ((es : List Tree) → AreEntries es → AreEntries (change es)) → (n : Node) → IsNode n → IsNode (on_entries property change n)
+pub on_node_is : (g id : List ℕ) (change : Node → Node) (graphs : Graphs) → ((n : Node) → IsNode n → IsNode (change n)) → IsMap graphs → IsMap (on_node g id change graphs)
+on_node_is g id change graphs keeps map = on_graph_is g (with_node id change) graphs (λ nodes graph. with_node_is id change nodes keeps graph) map
+
+pub on_entries_is : (property : List ℕ) (change : List Tree → List Tree) → is_keyword property ≡ false → ((es : List Tree) → AreEntries es → AreEntries (change es)) → (n : Node) → IsNode n → IsNode (on_entries property change n)
 on_entries_is property change apart keeps n node = record {
   ascend = ascend-with_at property (change (entries_in property n.properties)) n.properties node.ascend;
   each = all-with_at IsProperty property (change (entries_in property n.properties)) n.properties (apart, keeps (entries_in property n.properties) (entries_in_are property n.properties node.each)) node.each;
 }
 
-last_is : (e : Tree) (es : List Tree) → is_entry e ≡ true → AreEntries es → AreEntries (es ++ e ∷ [])
-last_is e [] is all = (is, tt)
-last_is e (x ∷ es) is all = (all.0, last_is e es is all.1)
-
-told_is : (e : Tree) → is_entry e ≡ true → (es : List Tree) → AreEntries es → AreEntries (told e es)
+pub told_is : (e : Tree) → is_entry e ≡ true → (es : List Tree) → AreEntries es → AreEntries (told e es)
 unfolding added
 told_is e is es all = by_tests (is_list_object e) (list_any (same_tree e) es)
   where
     by_tests : (b c : Bool) → AreEntries (cond b (es ++ e ∷ []) (cond c es (es ++ e ∷ [])))
-    by_tests true c = last_is e es is all
+    by_tests true c = all_last (λ x. is_entry x ≡ true) es e all is
     by_tests false true = all
-    by_tests false false = last_is e es is all
+    by_tests false false = all_last (λ x. is_entry x ≡ true) es e all is
 
 -- A list object is an entry.
 pub entries_are : (es : List Tree) → AreEntries es → are_entries (trees_of es) ≡ true

@@ -1,0 +1,15 @@
+mod SameName
+mod Used
+mod Numbers
+mod Known
+mod Unused
+mod Runs
+mod Gathered
+mod Divided
+mod Numbered
+mod Apart
+mod Read
+mod Told
+mod Sound
+mod FirstConflict
+mod Examples

@@ -1,0 +1,5 @@
+pub mod Words
+pub mod Own
+pub mod Told
+pub mod Sound
+pub mod Laws

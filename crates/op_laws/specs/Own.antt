@@ -1,0 +1,30 @@
+-- Names and entries that are told apart by labels.
+use Rattle.std.specs.Prelude.{◌≡◌, List, Bool, true, false, ⊤}
+use Rattle.std.specs.List.{list_any}
+use Rattle.ld_model.specs.Tree.{Tree, object}
+use Rattle.ld_model.specs.Label.{is_blank}
+use Rattle.ld_model.specs.Keys.{value_key}
+use Rattle.node_model.specs.Walk.{has_key}
+use Rattle.op_model.specs.Names.{Name, iri, same_name}
+use Rattle.op_model.specs.Ops.{Entry, value, reference, list, Entries, no_entries, entry}
+
+-- The name is among those that have labels, or it is an IRI that doesn't look like a label.
+abbrev pub HasOwn : List Name → Name → Type 0
+HasOwn names (iri s) = is_blank s ≡ false
+HasOwn names n = list_any (same_name n) names ≡ true
+
+-- The tree is a value object (JSON-LD 1.1, section 9.5).
+abbrev pub is_value : Tree → Bool
+is_value (object ms) = has_key value_key ms
+is_value _ = false
+
+-- Each name in an entry is such a name, and each value a value object.
+abbrev mutual
+  pub EntryHasOwn : List Name → Entry → Type 0
+  EntryHasOwn names (value t) = is_value t ≡ true
+  EntryHasOwn names (reference n) = HasOwn names n
+  EntryHasOwn names (list es) = EntriesHaveOwn names es
+
+  pub EntriesHaveOwn : List Name → Entries → Type 0
+  EntriesHaveOwn names no_entries = ⊤
+  EntriesHaveOwn names (entry e es) = EntryHasOwn names e × EntriesHaveOwn names es
