@@ -5,7 +5,7 @@
 #![tactic(auto)]
 
 ghost use Rattle.sum_laws.specs.Conflicts.{ChunksAreInOrder, TheFirstConflictComesFirst, TheFirstConflictIsThatOfAShard};
-ghost use Rattle.sum_laws.specs.Laws.{EachNameHasAShard, EntriesAreToldApart, JoinIsAMonoid, NamesAreToldApart, NodesAreToldApart, TheSumOfAShardIsItsPart, TheSumOfBothIsTheJoin, TheUsesOfBothAreJoined};
+ghost use Rattle.sum_laws.specs.Laws.{EachNameHasAShard, JoinIsAMonoid, SameEntriesAreEqual, SameNamesAreEqual, SameNodesAreEqual, TheSumOfAShardIsItsPart, TheSumOfBothIsTheJoin, TheUsesOfBothAreJoined};
 ghost use Rattle.sum_laws.specs.Said.{EntriesAreSaid, GraphsAreSaid, IndexesAreSaid, NodesAreSaid, NothingStandsTwice, OfEachSum, PropertiesAreSaid, TheSumIsWhatIsSaid, TypesAreSaid};
 
 /// However three sums are bracketed, their join is the same, and the empty sum joined to another leaves it as it is.
@@ -80,18 +80,18 @@ pub fn the_uses_of_both_are_joined()
 {}
 
 /// The test of equal names is true exactly of equal ones.
-pub fn names_are_told_apart()
-    ensures { NamesAreToldApart }
+pub fn same_names_are_equal()
+    ensures { SameNamesAreEqual }
 {}
 
 /// The test of equal nodes of graphs is true exactly where graph and node are equal.
-pub fn nodes_are_told_apart()
-    ensures { NodesAreToldApart }
+pub fn same_nodes_are_equal()
+    ensures { SameNodesAreEqual }
 {}
 
 /// The test by which entries are kept once is true exactly of equal values and of equal references, and of no list.
-pub fn entries_are_told_apart()
-    ensures { EntriesAreToldApart }
+pub fn same_entries_are_equal()
+    ensures { SameEntriesAreEqual }
 {}
 
 /// Where operations come in the order of their places, the first conflict in their sum is the first that any of them makes: it sets an
