@@ -7,3 +7,8 @@ pub mod Once
 pub mod Read
 pub mod Determined
 pub mod Uses
+pub mod Places
+pub mod Befores
+pub mod Conflicts
+pub mod Steps
+pub mod ShardConflicts

@@ -13,7 +13,7 @@ module _ {X : Type 0} where
   once-only same true x = refl
   once-only same false x = refl
 
-  all-filter : (P : X → Type 0) (p : X → Bool) (xs : List X) → AllByRecursion P xs → AllByRecursion P (filter p xs)
+  pub all-filter : (P : X → Type 0) (p : X → Bool) (xs : List X) → AllByRecursion P xs → AllByRecursion P (filter p xs)
   all-filter P p [] all = tt
   all-filter P p (x ∷ xs) all = by_test (p x) (all-filter P p xs all.1)
     where

@@ -8,7 +8,7 @@ use Rattle.ld_model.proofs.Truths.{both}
 use Rattle.op_model.specs.Names.{Name, iri, source, fresh, same_name}
 use Rattle.op_model.specs.Ops.{Entry, value, reference, list}
 use Rattle.sum_model.specs.Sums.{Key, same_key, same_entry}
-use Rattle.sum_laws.specs.Laws.{is_list, NamesAreToldApart, NodesAreToldApart, EntriesAreToldApart}
+use Rattle.sum_laws.specs.Laws.{is_list, SameNamesAreEqual, SameNodesAreEqual, SameEntriesAreEqual}
 use Rattle.sum_laws.proofs.Lists.{IsExact}
 
 pub same_name-exact : IsExact same_name
@@ -72,14 +72,14 @@ same_entry-itself (value a) is = same_tree-refl a
 same_entry-itself (reference a) is = same_name-refl a
 same_entry-itself (list a) is = absurd (cc)
 
-pub names_are_told_apart : NamesAreToldApart
-names_are_told_apart a b = (same_name-exact a b, same_name-from a b)
+pub same_names_are_equal : SameNamesAreEqual
+same_names_are_equal a b = (same_name-exact a b, same_name-from a b)
 
-pub nodes_are_told_apart : NodesAreToldApart
-nodes_are_told_apart a b = (same_key-exact a b, λ is. subst (λ x. same_key a x ≡ true) is (same_key-refl a))
+pub same_nodes_are_equal : SameNodesAreEqual
+same_nodes_are_equal a b = (same_key-exact a b, λ is. subst (λ x. same_key a x ≡ true) is (same_key-refl a))
 
-pub entries_are_told_apart : EntriesAreToldApart
-entries_are_told_apart a b = (
+pub same_entries_are_equal : SameEntriesAreEqual
+same_entries_are_equal a b = (
   λ is. (same_entry-exact a b is, same_entry-no_list a b is),
   λ is. subst (λ x. same_entry a x ≡ true) is.0 (same_entry-itself a is.1),
 )

@@ -32,16 +32,16 @@ abbrev pub TheUsesOfBothAreJoined : Type 0
 TheUsesOfBothAreJoined = (a b : List Name) → used [] (a ++ b) ≡ lists_joined same_name (used [] a) (used [] b)
 
 -- Two names, or two nodes of graphs, are the same exactly where they are equal.
-abbrev pub NamesAreToldApart : Type 0
-NamesAreToldApart = (a b : Name) → (same_name a b ≡ true) ↔ (a ≡ b)
+abbrev pub SameNamesAreEqual : Type 0
+SameNamesAreEqual = (a b : Name) → (same_name a b ≡ true) ↔ (a ≡ b)
 
-abbrev pub NodesAreToldApart : Type 0
-NodesAreToldApart = (a b : Key) → (same_key a b ≡ true) ↔ (a ≡ b)
+abbrev pub SameNodesAreEqual : Type 0
+SameNodesAreEqual = (a b : Key) → (same_key a b ≡ true) ↔ (a ≡ b)
 
 -- Two entries are the same exactly where they are equal and no list.
 abbrev pub is_list : Entry → Bool
 is_list (list es) = true
 is_list _ = false
 
-abbrev pub EntriesAreToldApart : Type 0
-EntriesAreToldApart = (a b : Entry) → (same_entry a b ≡ true) ↔ ((a ≡ b) × (is_list a ≡ false))
+abbrev pub SameEntriesAreEqual : Type 0
+SameEntriesAreEqual = (a b : Entry) → (same_entry a b ≡ true) ↔ ((a ≡ b) × (is_list a ≡ false))

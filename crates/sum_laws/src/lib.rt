@@ -1,9 +1,11 @@
 //! Laws of sums of operations, as `sum_model` defines them.
 //!
-//! There is no code here. Each function does nothing, and its contract is one law, which `specs/Laws.antt` and `specs/Said.antt` state.
+//! There is no code here. Each function does nothing, and its contract is one law, which a file of `specs/` states:
+//! `Laws.antt` those of joining, `Said.antt` what a sum has in it, and `Conflicts.antt` which conflict of indexes is the first.
 #![tactic(auto)]
 
-ghost use Rattle.sum_laws.specs.Laws.{EachNameHasAShard, EntriesAreToldApart, JoinIsAMonoid, NamesAreToldApart, NodesAreToldApart, TheSumOfAShardIsItsPart, TheSumOfBothIsTheJoin, TheUsesOfBothAreJoined};
+ghost use Rattle.sum_laws.specs.Conflicts.{ChunksAreInOrder, TheFirstConflictComesFirst, TheFirstConflictIsThatOfAShard};
+ghost use Rattle.sum_laws.specs.Laws.{EachNameHasAShard, JoinIsAMonoid, SameEntriesAreEqual, SameNamesAreEqual, SameNodesAreEqual, TheSumOfAShardIsItsPart, TheSumOfBothIsTheJoin, TheUsesOfBothAreJoined};
 ghost use Rattle.sum_laws.specs.Said.{EntriesAreSaid, GraphsAreSaid, IndexesAreSaid, NodesAreSaid, NothingStandsTwice, OfEachSum, PropertiesAreSaid, TheSumIsWhatIsSaid, TypesAreSaid};
 
 /// However three sums are bracketed, their join is the same, and the empty sum joined to another leaves it as it is.
@@ -78,16 +80,32 @@ pub fn the_uses_of_both_are_joined()
 {}
 
 /// The test of equal names is true exactly of equal ones.
-pub fn names_are_told_apart()
-    ensures { NamesAreToldApart }
+pub fn same_names_are_equal()
+    ensures { SameNamesAreEqual }
 {}
 
 /// The test of equal nodes of graphs is true exactly where graph and node are equal.
-pub fn nodes_are_told_apart()
-    ensures { NodesAreToldApart }
+pub fn same_nodes_are_equal()
+    ensures { SameNodesAreEqual }
 {}
 
 /// The test by which entries are kept once is true exactly of equal values and of equal references, and of no list.
-pub fn entries_are_told_apart()
-    ensures { EntriesAreToldApart }
+pub fn same_entries_are_equal()
+    ensures { SameEntriesAreEqual }
+{}
+
+/// Where operations come in the order of their places, the first conflict in their sum is the first that any of them makes: it sets an
+/// index of a node whose index was first set to another one (JSON-LD 1.1 API, section 7.2, step 6.8).
+pub fn the_first_conflict_comes_first()
+    ensures { TheFirstConflictComesFirst }
+{}
+
+/// The operations of chunks, one chunk after another, come in the order of their places.
+pub fn chunks_are_in_order()
+    ensures { ChunksAreInOrder }
+{}
+
+/// The earliest, by place, of the first conflicts that the shards of a sum have is the first conflict in the sum.
+pub fn the_first_conflict_is_that_of_a_shard()
+    ensures { TheFirstConflictIsThatOfAShard }
 {}

@@ -4,7 +4,8 @@ use Rattle.std.specs.Prelude.{codes}
 use Rattle.ld_model.specs.Tree.{text, object, no_members, member}
 use Rattle.op_model.specs.Names.{Name, iri, source, fresh}
 use Rattle.op_model.specs.Ops.{Entry, value, reference, list, no_entries, entry, use_label, ensure_graph, ensure_node, ensure_property, add_entry, append_list, add_type, set_index}
-use Rattle.sum_model.specs.Sums.{Place, Placed, placed, PartEntry, bare, Sum, empty_sum, join, sum}
+use Rattle.sum_model.specs.Sums.{Place, Placed, placed, placed_chunks, PartEntry, bare, Sum, empty_sum, join, sum}
+use Rattle.sum_model.specs.Conflicts.{first_conflict}
 use Rattle.sum_model.specs.Shards.{shard_of, in_shard, ops_in, part_in}
 
 abbrev g : Name
@@ -85,6 +86,16 @@ from_the_left = refl
 
 from_the_right : join first (join second third) ≡ whole
 from_the_right = refl
+
+the_sum_of_all : sum (placed_chunks 0 ((set_index g a (codes "x") ∷ add_entry g b p v ∷ []) ∷ (add_type g c q ∷ set_index g a (codes "x") ∷ add_entry g b p (reference a) ∷ []) ∷ (add_entry g b p v ∷ set_index g a (codes "y") ∷ []) ∷ [])) ≡ whole
+the_sum_of_all = refl
+
+its_conflict : first_conflict whole ≡ Some (record { place = place 2 1; node = a; first = codes "x"; second = codes "y" })
+its_conflict = refl
+
+-- Of two nodes the one that has the earlier conflict, though the other was used first.
+the_earlier_conflict : first_conflict (sum (placed 0 (set_index g a (codes "x") ∷ set_index g b (codes "x") ∷ set_index g b (codes "y") ∷ set_index g a (codes "y") ∷ []))) ≡ Some (record { place = place 0 2; node = b; first = codes "x"; second = codes "y" })
+the_earlier_conflict = refl
 
 -- (31 * (31 * 97 + 98) + 99) is 96354.
 a_shard_of_a_text : shard_of 64 (iri (codes "abc")) ≡ 34

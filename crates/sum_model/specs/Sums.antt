@@ -1,5 +1,5 @@
 -- The sum of operations: what they add to a node map, by graphs and nodes, each in the order of its first use.
-use Rattle.std.specs.Prelude.{ℕ, ◌+◌, List, [], ◌∷◌, Bool, false, ◌&&◌, if◌then◌else◌, Option, Some, None}
+use Rattle.std.specs.Prelude.{ℕ, ◌+◌, List, [], ◌∷◌, ◌++◌, Bool, false, ◌&&◌, if◌then◌else◌, Option, Some, None}
 use Rattle.std.specs.Str.{bytes_eq}
 use Rattle.ld_model.specs.Tree.{same_tree}
 use Rattle.op_model.specs.Names.{Name, same_name}
@@ -21,6 +21,11 @@ placed_from chunk number (o ∷ os) = (record { chunk = chunk; number = number }
 -- The operations of a chunk, each at its place.
 abbrev pub placed : ℕ → List Op → List Placed
 placed chunk os = placed_from chunk 0 os
+
+-- Those of chunks, one after another, which are numbered from this number on.
+abbrev pub placed_chunks : ℕ → List (List Op) → List Placed
+placed_chunks chunk [] = []
+placed_chunks chunk (os ∷ rest) = placed chunk os ++ placed_chunks (chunk + 1) rest
 
 -- A node of a graph: the graph, and the node.
 abbrev pub Key : Type 0

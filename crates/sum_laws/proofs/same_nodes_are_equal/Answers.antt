@@ -1,0 +1,5 @@
+use Rattle.sum_laws.proofs.Same as laws
+use Rattle.sum_laws.proofs.same_nodes_are_equal.Goals as goal
+
+pub returns : goal.returns
+returns c = laws.same_nodes_are_equal
