@@ -2,3 +2,4 @@ pub mod Maps
 pub mod GraphLemmas
 pub mod Logs
 pub mod Once
+pub mod Pairs

@@ -14,7 +14,11 @@ use Rattle.std.proofs.lemmas.Map.Steps.{set_value_same}
 use Rattle.ld_model.specs.Tree.{byte_order, IsBefore}
 use Rattle.ld_model.proofs.Puts.{order-refl, flipped}
 use Rattle.node_model.specs.Maps.{MapOf, at, with_at}
-use Rattle.node_ops.specs.Views.{shown}
+use Rattle.std.specs.BTreeMap.{BTreeMap}
+use Rattle.node_model.specs.NodeMap.{node_in, graph_in, node_or_new, graph_or_new}
+use Rattle.node_ops.specs.Log.{node_view}
+use Rattle.node_ops.specs.Views.{shown, graph_view, graphs_view}
+use Rattle.node_ops.specs.declared.node.Node.{Node}
 
 module _ {V : Type 0} where
   -- What was put at a key is there, and is gone once something else is put there.
@@ -82,3 +86,21 @@ module _ {V W : Type 0} (f : V → W) where
   pub keys_of-shown : (es : MapOf V) → keys_of (shown f es) ≡ keys_of es
   keys_of-shown [] = refl
   keys_of-shown (e ∷ es) = ap (λ l. e.0 ∷ l) (keys_of-shown es)
+
+-- The value at a key, changed: where it is there, and where it is missing. `made` is what the change begins with.
+module _ {V W : Type 0} (f : V → W) (made : Option W → W) (change : W → W) (k : List ℕ) (es : MapOf V) where
+  pub changed-there : (new old : V) → IsStrictlySortedBy byte_order (keys_of es) → at k es ≡ Some old → made (Some (f old)) ≡ f old → f new ≡ change (f old) → shown f (set_value (is_at (byte_order k)) es new) ≡ with_at k (change (made (at k (shown f es)))) (shown f es)
+  changed-there new old sorted there same is =
+      shown-set f k new old es sorted there
+      ∙ ap (λ w. with_at k w (shown f es)) (is ∙ ap change (sym same ∙ ap made (sym (at-shown f k es ∙ ap (option_map f) there))))
+
+  pub changed-missing : (new : W) → at k es ≡ None → new ≡ change (made None) → with_at k new (shown f es) ≡ with_at k (change (made (at k (shown f es)))) (shown f es)
+  changed-missing new missing is =
+      ap (λ w. with_at k w (shown f es)) (is ∙ ap (λ o. change (made o)) (sym (at-shown f k es ∙ ap (option_map f) missing)))
+
+-- The index that a node has, looked up.
+pub index-of : (g id : List ℕ) (graphs : List (List ℕ × BTreeMap (List ℕ) Node)) (o : Option (BTreeMap (List ℕ) Node)) → at g graphs ≡ o → (node_in id (graph_in g (graphs_view graphs))).index ≡ (node_in id (graph_or_new (option_map (λ m. graph_view m.entries) o))).index
+index-of g id graphs o is = ap (λ h. (node_in id (graph_or_new h)).index) (at-shown (λ m. graph_view m.entries) g graphs ∙ ap (option_map (λ m. graph_view m.entries)) is)
+
+pub index-in : (id : List ℕ) (nodes : List (List ℕ × Node)) (o : Option Node) → at id nodes ≡ o → (node_in id (graph_view nodes)).index ≡ (node_or_new (option_map node_view o)).index
+index-in id nodes o is = ap (λ n. (node_or_new n).index) (at-shown node_view id nodes ∙ ap (option_map node_view) is)

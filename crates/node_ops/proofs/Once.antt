@@ -1,17 +1,17 @@
 -- Entries told one after another are those that stay.
-use Rattle.std.proofs.Common.{◌≡◌, ℕ, ◌+◌, List, [], ◌∷◌, ◌++◌, length, append_assoc, append-nil, cond, ◌||◌, not, zero, suc, take, drop, add-one, ◌-◌, arith, Bool, true, false, Option, Some, None, refl, sym, ap, ◌∙◌, subst}
+use Rattle.std.proofs.Common.{◌≡◌, ◌≢◌, ℕ, ◌+◌, List, [], ◌∷◌, ◌++◌, length, append_assoc, append-nil, cond, ◌||◌, not, zero, suc, take, drop, add-one, ◌-◌, arith, Bool, true, false, Option, Some, None, refl, sym, ap, ◌∙◌, subst}
 use Rattle.std.specs.Prelude.{slice_get}
 use Rattle.std.specs.List.{list_any}
 use Rattle.std.proofs.lemmas.Grind.{common_steps}
 use Rattle.std.proofs.lemmas.List.Folds.{list_any-append}
 use Rattle.std.specs.BTreeMap.{insert_entry}
-use Rattle.ld_model.specs.Tree.{Tree, Pairs, same_tree, byte_order, AreAscending}
+use Rattle.ld_model.specs.Tree.{Tree, Pairs, null, truth, whole, one_one, text, array, object, members_of, same_tree, byte_order, AreAscending}
 use Rattle.ld_model.specs.NodeMap.{added}
 use Rattle.ld_model.proofs.SameTree.{same_tree-exact, same_tree-refl}
 use Rattle.ld_tree.proofs.ViewLemmas.{insert_entry-behind}
 use Rattle.node_model.specs.NodeMap.{told, is_list_object}
 use Rattle.node_ops.specs.Log.{all_told}
-use Rattle.node_ops.specs.Once.{repeats, is_held, stays, kept, kept_if}
+use Rattle.node_ops.specs.Once.{repeats, is_held, stays, kept, kept_if, is_list_member, is_only_list}
 
 -- Where nothing repeats, all stay.
 told-new : (t : Tree) (held : List Tree) → list_any (same_tree t) held ≡ false → told t held ≡ held ++ t ∷ []
@@ -78,17 +78,24 @@ tells_there has t es there tells u other = by (same_tree t u) refl
     by true same = sym (subst (λ c. list_any (same_tree c) es ≡ true) (same_tree-exact t u same) there)
     by false same = tells u other
 
-pub told-stays : (has : Tree → Bool) (ts es : List Tree) → Tells has es → all_told ts es ≡ es ++ kept (stays has ts) ts
+-- What is told further of entries of which this tells.
+abbrev pub Stays : List Tree → Type 0
+Stays ts = (has : Tree → Bool) (es : List Tree) → Tells has es → all_told ts es ≡ es ++ kept (stays has ts) ts
+
+stays-new : (has : Tree → Bool) (t : Tree) (ts es : List Tree) → Stays ts → Tells has es → (b : Bool) → list_any (same_tree t) es ≡ b → all_told ts (cond b es (es ++ t ∷ [])) ≡ es ++ kept_if (not b) t (kept (stays (λ u. same_tree t u || has u) ts) ts)
+stays-new has t ts es rest tells true there = rest (λ u. same_tree t u || has u) es (tells_there has t es there tells)
+stays-new has t ts es rest tells false there =
+    rest (λ u. same_tree t u || has u) (es ++ t ∷ []) (tells_new has t es tells) ∙ append_assoc es (t ∷ []) (kept (stays (λ u. same_tree t u || has u) ts) ts)
+
+stays-step : (has : Tree → Bool) (t : Tree) (ts es : List Tree) → Stays ts → Tells has es → (b : Bool) → is_list_object t ≡ b → all_told ts (cond b (es ++ t ∷ []) (added t es)) ≡ es ++ kept (cond b (true ∷ stays has ts) (not (has t) ∷ stays (λ u. same_tree t u || has u) ts)) (t ∷ ts)
 unfolding added
-told-stays has [] es tells = sym (append-nil es)
-told-stays has (t ∷ ts) es tells = by_kind (is_list_object t) refl
-  where
-    by_found : (b : Bool) → list_any (same_tree t) es ≡ b → all_told ts (cond b es (es ++ t ∷ [])) ≡ es ++ kept_if (not b) t (kept (stays (λ u. same_tree t u || has u) ts) ts)
-    by_found true there = told-stays (λ u. same_tree t u || has u) ts es (tells_there has t es there tells)
-    by_found false there = told-stays (λ u. same_tree t u || has u) ts (es ++ t ∷ []) (tells_new has t es tells) ∙ append_assoc es (t ∷ []) (kept (stays (λ u. same_tree t u || has u) ts) ts)
-    by_kind : (b : Bool) → is_list_object t ≡ b → all_told ts (cond b (es ++ t ∷ []) (added t es)) ≡ es ++ kept (cond b (true ∷ stays has ts) (not (has t) ∷ stays (λ u. same_tree t u || has u) ts)) (t ∷ ts)
-    by_kind true list = told-stays has ts (es ++ t ∷ []) (tells_list has t es list tells) ∙ append_assoc es (t ∷ []) (kept (stays has ts) ts)
-    by_kind false list = rw (tells t list) (by_found (list_any (same_tree t) es) refl)
+stays-step has t ts es rest tells true list = rest has (es ++ t ∷ []) (tells_list has t es list tells) ∙ append_assoc es (t ∷ []) (kept (stays has ts) ts)
+stays-step has t ts es rest tells false list = rw (tells t list) (stays-new has t ts es rest tells (list_any (same_tree t) es) refl)
+
+pub told-stays : (ts : List Tree) → Stays ts
+told-stays [] has es tells = sym (append-nil es)
+told-stays (t ∷ ts) has es tells = stays-step has t ts es (told-stays ts) tells (is_list_object t) refl
+
 -- One entry after another, with those ahead of it.
 repeats-step : (held ts : List Tree) (n : ℕ) → repeats (held ++ take n ts) (drop n ts) ≡ (is_held (slice_get ts n) (held ++ take n ts) || repeats (held ++ take (suc n) ts) (drop (suc n) ts))
 repeats-step held [] zero = refl
@@ -118,3 +125,39 @@ pub put_behind : (done new : Pairs) (m : List ℕ × Tree) (more all : Pairs) �
 put_behind done new m more all sorted left is =
     let whole : AreAscending (done ++ m ∷ more) = subst AreAscending (sym left) sorted in
     ap (λ l. l ++ more) (is ∙ insert_entry-behind done m more whole) ∙ append_assoc done (m ∷ []) more ∙ left
+
+-- An object is a list object by its only member.
+pub only_list-is : (ms : Pairs) → is_only_list ms ≡ is_list_object (object (members_of ms))
+only_list-is [] = refl
+only_list-is ((k, array ts) ∷ []) = refl
+only_list-is ((k, null) ∷ []) = refl
+only_list-is ((k, truth b) ∷ []) = refl
+only_list-is ((k, whole n) ∷ []) = refl
+only_list-is ((k, one_one) ∷ []) = refl
+only_list-is ((k, text s) ∷ []) = refl
+only_list-is ((k, object xs) ∷ []) = refl
+only_list-is ((k, null) ∷ m ∷ ms) = refl
+only_list-is ((k, truth b) ∷ m ∷ ms) = refl
+only_list-is ((k, whole n) ∷ m ∷ ms) = refl
+only_list-is ((k, one_one) ∷ m ∷ ms) = refl
+only_list-is ((k, text s) ∷ m ∷ ms) = refl
+only_list-is ((k, array ts) ∷ m ∷ ms) = refl
+only_list-is ((k, object xs) ∷ m ∷ ms) = refl
+
+pub only_one : (m : List ℕ × Tree) (ms : Pairs) → length ms ≡ 1 → slice_get ms 0 ≡ Some m → is_list_member m ≡ is_only_list ms
+only_one m [] one first = absurd (omega arith)
+only_one m (n ∷ []) one first = ap is_list_member (let is : n ≡ m = cc in sym is)
+only_one m (n ∷ o ∷ ms) one first = absurd (omega arith)
+
+pub none_first : (ms : Pairs) → length ms ≡ 1 → slice_get ms 0 ≡ None → false ≡ is_only_list ms
+none_first [] one first = refl
+none_first (n ∷ ms) one first = absurd (cc)
+
+pub not_one : (ms : Pairs) → length ms ≢ 1 → false ≡ is_only_list ms
+not_one [] other = refl
+not_one (m ∷ []) other = absurd (other refl)
+not_one (m ∷ n ∷ ms) other = refl
+
+pub kept-nil : (bs : List Bool) → kept bs [] ≡ []
+kept-nil [] = refl
+kept-nil (b ∷ bs) = refl

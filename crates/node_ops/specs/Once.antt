@@ -1,7 +1,9 @@
 -- Which entries of a property stay: a list in any case, another entry where no earlier one equals it.
 use Rattle.std.specs.Prelude.{ℕ, List, [], ◌∷◌, ◌++◌, Bool, true, false, ◌||◌, not, if◌then◌else◌, Option, Some, None}
 use Rattle.std.specs.List.{list_any}
-use Rattle.ld_model.specs.Tree.{Tree, same_tree}
+use Rattle.std.specs.Str.{bytes_eq}
+use Rattle.ld_model.specs.Tree.{Tree, Pairs, array, same_tree}
+use Rattle.node_model.specs.Keys.{list_key}
 use Rattle.node_model.specs.NodeMap.{is_list_object}
 
 -- There is an entry, and it equals one of these.
@@ -13,6 +15,15 @@ is_held None held = false
 abbrev pub repeats : List Tree → List Tree → Bool
 repeats held [] = false
 repeats held (t ∷ ts) = list_any (same_tree t) held || repeats (held ++ t ∷ []) ts
+
+-- An object with nothing but this member is a list object.
+abbrev pub is_list_member : List ℕ × Tree → Bool
+is_list_member (k, array ts) = bytes_eq k list_key
+is_list_member _ = false
+
+abbrev pub is_only_list : Pairs → Bool
+is_only_list (m ∷ []) = is_list_member m
+is_only_list _ = false
 
 -- For each entry whether it stays, where this says which trees are ahead of it.
 abbrev pub stays : (Tree → Bool) → List Tree → List Bool
@@ -28,6 +39,6 @@ abbrev pub kept_if : Bool → Tree → List Tree → List Tree
 kept_if b t ts = if b then t ∷ ts else ts
 
 abbrev pub kept : List Bool → List Tree → List Tree
-kept bs [] = []
-kept [] (t ∷ ts) = []
+kept [] ts = []
+kept (b ∷ bs) [] = []
 kept (b ∷ bs) (t ∷ ts) = kept_if b t (kept bs ts)

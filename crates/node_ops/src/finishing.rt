@@ -52,6 +52,7 @@ fn members_of(alloc: Global, id: &Text, node: Node) -> Result<Members, AllocErro
     Ok(members)
 }
 
+#[tactic(auto, unfolding(ld_model::specs::Tree::put))]
 fn put_index(alloc: Global, members: &mut Members, index: Option<Text>) -> Result<(), AllocError>
     ensures { OnOk result (members.new ≡ index_put index members.old) }
 {
@@ -67,10 +68,10 @@ fn put_index(alloc: Global, members: &mut Members, index: Option<Text>) -> Resul
 fn put_types(alloc: Global, members: &mut Members, types: Vec<Text>) -> Result<(), AllocError>
     ensures { OnOk result (members.new ≡ types_put (types_told types.items []) members.old) }
 {
-    if types.is_empty() {
+    let texts = texts_of(alloc, types)?;
+    if texts.is_empty() {
         return Ok(());
     }
-    let texts = texts_of(alloc, types)?;
     let once = without_repeats(alloc, texts)?;
     members.put(alloc, "@type", Tree::Items(once))?;
     Ok(())
@@ -86,7 +87,11 @@ fn texts_of(alloc: Global, types: Vec<Text>) -> Result<Trees, AllocError>
     Ok(texts)
 }
 
-fn put_properties(alloc: Global, members: &mut Members, properties: Vec<Told>) -> Result<(), AllocError>
+fn put_properties(
+    alloc: Global,
+    members: &mut Members,
+    properties: Vec<Told>,
+) -> Result<(), AllocError>
     ensures { OnOk result (members.new ≡ properties_put (map pair_of properties.items) members.old) }
 {
     for told in properties {
@@ -95,6 +100,7 @@ fn put_properties(alloc: Global, members: &mut Members, properties: Vec<Told>) -
     Ok(())
 }
 
+#[tactic(auto, unfolding(ld_model::specs::Tree::put))]
 fn put_property(alloc: Global, members: &mut Members, told: Told) -> Result<(), AllocError>
     ensures { OnOk result (members.new ≡ put told.property (array (trees_of (all_told told.entries []))) members.old) }
 {

@@ -93,7 +93,11 @@ fn finished(alloc: Global, nodes: Nodes) -> Result<(NodeMap, u64), MapStop>
     ensures { MatchResult result (λ r. outcome (state_view nodes).conflict (state_view nodes) ≡ Ok (record { graphs = r.0.graphs; issued = r.1 }))
         (Stops (outcome (state_view nodes).conflict (state_view nodes))) }
 {
-    let Nodes { graphs, labels, conflict } = nodes;
+    let Nodes {
+        graphs,
+        labels,
+        conflict,
+    } = nodes;
     if let Some(conflict) = conflict {
         return Err(MapStop::Conflict(conflict));
     }

@@ -87,6 +87,7 @@ impl Labels {
     }
 }
 
+#[tactic(auto, unfolding(node_model::specs::Maps::with_at))]
 fn give(given: &mut BTreeMap<Text, u64>, text: Text, number: u64) -> Result<(), AllocError>
     ensures { OnOk result (given.new.entries ≡ with_at text number given.old.entries) }
 {

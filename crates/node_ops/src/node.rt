@@ -85,7 +85,12 @@ fn tell_property(alloc: Global, log: &mut Vec<Told>, property: &Text) -> Result<
     Ok(())
 }
 
-fn tell_entry(alloc: Global, log: &mut Vec<Told>, property: &Text, entry: Tree) -> Result<(), AllocError>
+fn tell_entry(
+    alloc: Global,
+    log: &mut Vec<Told>,
+    property: &Text,
+    entry: Tree,
+) -> Result<(), AllocError>
     ensures { OnOk result (properties_told log.new.items [] ≡ with_entries property.now (told (view entry)) (properties_told log.old.items [])) }
 {
     let mut last = last_told(alloc, log, property)?;

@@ -27,6 +27,7 @@ pub(crate) struct Nodes {
 
 impl Nodes {
     /// A graph of this name, and nothing in it.
+    #[tactic(auto, unfolding(node_model::specs::Maps::with_at))]
     pub(crate) fn new(alloc: Global, name: &Text) -> Result<Nodes, AllocError>
         ensures { IfOk result (λ n. state_view n ≡ record { graphs = (name.now, []) ∷ []; labels = no_labels; conflict = None }) }
     {
@@ -47,14 +48,21 @@ impl Gather for Nodes {
     ghost use Rattle.node_ops.specs.Views.{state_view};
 
     type Name = Text;
+
     type Items = Trees;
 
     ghost State = { Gathered };
+
     ghost N = { List ℕ };
+
     ghost E = { TreeData };
+
     ghost steps = { generating };
+
     ghost state = { state_view };
+
     ghost name = { λ n. n };
+
     ghost items = { λ ts. ts };
 
     fn no_items(&self, alloc: Global) -> Trees {
@@ -66,7 +74,12 @@ impl Gather for Nodes {
         Ok(())
     }
 
-    fn push_reference(&self, alloc: Global, list: &mut Trees, node: &Text) -> Result<(), AllocError> {
+    fn push_reference(
+        &self,
+        alloc: Global,
+        list: &mut Trees,
+        node: &Text,
+    ) -> Result<(), AllocError> {
         list.push(reference(alloc, node)?)?;
         Ok(())
     }
@@ -87,9 +100,21 @@ impl Gather for Nodes {
         Ok(name)
     }
 
-    fn property(&mut self, alloc: Global, graph: &Text, node: &Text, text: Text) -> Result<Text, AllocError> {
+    fn property(
+        &mut self,
+        alloc: Global,
+        graph: &Text,
+        node: &Text,
+        text: Text,
+    ) -> Result<Text, AllocError> {
         let name = self.labels.named(alloc, text)?;
-        tell(alloc, &mut self.graphs, graph, node, Telling::Property(&name))?;
+        tell(
+            alloc,
+            &mut self.graphs,
+            graph,
+            node,
+            Telling::Property(&name),
+        )?;
         Ok(name)
     }
 
@@ -98,29 +123,86 @@ impl Gather for Nodes {
         Ok(())
     }
 
-    fn add_value(&mut self, alloc: Global, graph: &Text, node: &Text, property: &Text, value: Tree) -> Result<(), AllocError> {
-        tell(alloc, &mut self.graphs, graph, node, Telling::Entry(property, value))?;
+    fn add_value(
+        &mut self,
+        alloc: Global,
+        graph: &Text,
+        node: &Text,
+        property: &Text,
+        value: Tree,
+    ) -> Result<(), AllocError> {
+        tell(
+            alloc,
+            &mut self.graphs,
+            graph,
+            node,
+            Telling::Entry(property, value),
+        )?;
         Ok(())
     }
 
-    fn add_reference(&mut self, alloc: Global, graph: &Text, node: &Text, property: &Text, target: &Text) -> Result<(), AllocError> {
+    fn add_reference(
+        &mut self,
+        alloc: Global,
+        graph: &Text,
+        node: &Text,
+        property: &Text,
+        target: &Text,
+    ) -> Result<(), AllocError> {
         let entry = reference(alloc, target)?;
-        tell(alloc, &mut self.graphs, graph, node, Telling::Entry(property, entry))?;
+        tell(
+            alloc,
+            &mut self.graphs,
+            graph,
+            node,
+            Telling::Entry(property, entry),
+        )?;
         Ok(())
     }
 
-    fn append(&mut self, alloc: Global, graph: &Text, node: &Text, property: &Text, list: Trees) -> Result<(), AllocError> {
+    fn append(
+        &mut self,
+        alloc: Global,
+        graph: &Text,
+        node: &Text,
+        property: &Text,
+        list: Trees,
+    ) -> Result<(), AllocError> {
         let entry = list_object(alloc, list)?;
-        tell(alloc, &mut self.graphs, graph, node, Telling::Entry(property, entry))?;
+        tell(
+            alloc,
+            &mut self.graphs,
+            graph,
+            node,
+            Telling::Entry(property, entry),
+        )?;
         Ok(())
     }
 
-    fn add_type(&mut self, alloc: Global, graph: &Text, node: &Text, type_name: Text) -> Result<(), AllocError> {
-        tell(alloc, &mut self.graphs, graph, node, Telling::TypeName(type_name))?;
+    fn add_type(
+        &mut self,
+        alloc: Global,
+        graph: &Text,
+        node: &Text,
+        type_name: Text,
+    ) -> Result<(), AllocError> {
+        tell(
+            alloc,
+            &mut self.graphs,
+            graph,
+            node,
+            Telling::TypeName(type_name),
+        )?;
         Ok(())
     }
 
-    fn set_index(&mut self, alloc: Global, graph: &Text, node: &Text, index: Text) -> Result<(), AllocError> {
+    fn set_index(
+        &mut self,
+        alloc: Global,
+        graph: &Text,
+        node: &Text,
+        index: Text,
+    ) -> Result<(), AllocError> {
         match index_of(&self.graphs, graph, node)? {
             None => {
                 tell(alloc, &mut self.graphs, graph, node, Telling::Index(index))?;
@@ -135,7 +217,12 @@ impl Gather for Nodes {
 }
 
 /// Notes a conflict, where the index that a node has is not the one that it is told to have. The first conflict stays.
-fn note_index(conflict: &mut Option<Conflict>, node: &Text, first: Text, second: Text) -> Result<(), AllocError>
+fn note_index(
+    conflict: &mut Option<Conflict>,
+    node: &Text,
+    first: Text,
+    second: Text,
+) -> Result<(), AllocError>
     ensures { OnOk result (conflict_in conflict.new ≡ (if bytes_eq first second then conflict_in conflict.old
         else or_conflict (conflict_in conflict.old) (record { node = node.now; first = first; second = second }))) }
 {

@@ -1,19 +1,21 @@
 // Entries that equal an earlier one of their property, and what is left without them.
-ghost use Rattle.std.specs.Prelude.{◌≡◌, ◌||◌, List, [], ◌∷◌, not, take, slice_get, IfOk, OnOk};
+ghost use Rattle.std.specs.Prelude.{◌≡◌, ◌||◌, List, [], ◌∷◌, ◌++◌, not, take, slice_get, IfOk, OnOk};
 ghost use Rattle.std.specs.BTreeSet.{contains};
+ghost use Rattle.std.specs.Vec.Iter.{into_iter_items};
 ghost use Rattle.std.specs.List.{list_any};
 ghost use Rattle.ld_model.specs.Tree as model;
 ghost use Rattle.ld_model.specs.Tree.{same_tree};
 ghost use Rattle.ld_tree.specs.View.{view};
 ghost use Rattle.node_model.specs.NodeMap.{is_list_object};
 ghost use Rattle.node_ops.specs.Log.{all_told};
-ghost use Rattle.node_ops.specs.Once.{repeats, is_held, stays, kept, none_ahead};
+ghost use Rattle.node_ops.specs.Once.{repeats, is_held, stays, kept, kept_if, none_ahead, is_only_list, is_list_member};
 ghost use Rattle.node_ops.specs.TreeOrder.{tree_order};
 
 use crate::tree_order::Ranked;
-use ld_tree::{Tree, Trees};
+use ld_tree::{Members, Text, Tree, Trees};
 use std::alloc::{AllocError, Global};
 use std::collections::BTreeSet;
+use std::vec;
 
 /// Among so many entries at most, each is compared with those ahead of it.
 const FEW: usize = 16;
@@ -107,10 +109,31 @@ fn note<'a>(seen: &mut BTreeSet<Ranked<'a>>, entry: &'a Tree) -> Result<bool, Al
 fn is_list(entry: &Tree) -> bool
     ensures { result ≡ is_list_object (view entry.now) }
 {
-    let Tree::Map(members) = entry else {
+    match entry {
+        Tree::Map(members) => is_only_list(members),
+        _ => false,
+    }
+}
+
+fn is_only_list(members: &Members) -> bool
+    ensures { result ≡ is_only_list members.now }
+{
+    if members.len() != 1 {
         return false;
-    };
-    members.len() == 1 && matches!(members.get("@list"), Some(Tree::Items(_)))
+    }
+    match members.at(0) {
+        Some((key, value)) => is_list_member(key, value),
+        None => false,
+    }
+}
+
+fn is_list_member(key: &Text, value: &Tree) -> bool
+    ensures { result ≡ is_list_member (key.now, view value.now) }
+{
+    match value {
+        Tree::Items(_) => key.as_str() == "@list",
+        _ => false,
+    }
 }
 
 /// The entries that stay.
@@ -120,9 +143,28 @@ fn those_kept(alloc: Global, entries: Trees, stay: Vec<bool>) -> Result<Trees, A
     let mut those = Trees::with_capacity(alloc, entries.len())?;
     let mut stay = stay.into_iter();
     for entry in entries {
-        if stay.next().unwrap_or(false) {
-            those.push(entry)?;
-        }
+        let stays = next_stays(&mut stay);
+        keep_if(stays, &mut those, entry)?;
     }
     Ok(those)
+}
+
+/// Whether the next entry stays.
+fn next_stays(stay: &mut vec::IntoIter<bool>) -> bool
+    ensures { (t : model.Tree) → (ts : List model.Tree) → kept (into_iter_items stay.old) (t ∷ ts) ≡ kept_if result t (kept (into_iter_items stay.new) ts) }
+{
+    match stay.next() {
+        Some(stays) => stays,
+        None => false,
+    }
+}
+
+fn keep_if(stays: bool, those: &mut Trees, entry: Tree) -> Result<(), AllocError>
+    ensures { OnOk result ((ts : List model.Tree) → those.new ++ ts ≡ those.old ++ kept_if stays (view entry) ts) }
+{
+    if !stays {
+        return Ok(());
+    }
+    those.push(entry)?;
+    Ok(())
 }

@@ -17,7 +17,13 @@ pub(crate) type Graph = BTreeMap<Text, Node>;
 pub(crate) type Graphs = BTreeMap<Text, Graph>;
 
 /// Tells of a node of a graph. Graph and node are made where they are missing.
-pub(crate) fn tell(alloc: Global, graphs: &mut Graphs, graph: &Text, id: &Text, telling: Telling<'_>) -> Result<(), AllocError>
+pub(crate) fn tell(
+    alloc: Global,
+    graphs: &mut Graphs,
+    graph: &Text,
+    id: &Text,
+    telling: Telling<'_>,
+) -> Result<(), AllocError>
     ensures { OnOk result (graphs_view graphs.new.entries ≡ on_node graph.now id.now (change_of telling.entry) (graphs_view graphs.old.entries)) }
 {
     if let Some(nodes) = graphs.get_mut(graph) {
@@ -30,7 +36,12 @@ pub(crate) fn tell(alloc: Global, graphs: &mut Graphs, graph: &Text, id: &Text, 
     Ok(())
 }
 
-fn tell_in(alloc: Global, nodes: &mut Graph, id: &Text, telling: Telling<'_>) -> Result<(), AllocError>
+fn tell_in(
+    alloc: Global,
+    nodes: &mut Graph,
+    id: &Text,
+    telling: Telling<'_>,
+) -> Result<(), AllocError>
     ensures { OnOk result (graph_view nodes.new.entries ≡ with_node id.now (change_of telling.entry) (graph_view nodes.old.entries)) }
 {
     if let Some(node) = nodes.get_mut(id) {
@@ -44,10 +55,14 @@ fn tell_in(alloc: Global, nodes: &mut Graph, id: &Text, telling: Telling<'_>) ->
 }
 
 /// Makes a graph, where there is none of this name.
-pub(crate) fn ensure_graph(alloc: Global, graphs: &mut Graphs, graph: &Text) -> Result<(), AllocError>
+pub(crate) fn ensure_graph(
+    alloc: Global,
+    graphs: &mut Graphs,
+    graph: &Text,
+) -> Result<(), AllocError>
     ensures { OnOk result (graphs_view graphs.new.entries ≡ on_graph graph.now (λ nodes. nodes) (graphs_view graphs.old.entries)) }
 {
-    if graphs.get(graph).is_some() {
+    if let Some(_nodes) = graphs.get_mut(graph) {
         return Ok(());
     }
     put_graph(graphs, graph.copy()?, BTreeMap::new(alloc))?;
