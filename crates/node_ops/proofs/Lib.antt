@@ -1,6 +1,5 @@
+pub mod Maps
 pub mod GraphLemmas
-pub mod Plain
+pub mod Logs
 pub mod Once
-pub mod SeenLemmas
-pub mod Order
-pub mod Whole
+pub mod Pairs

@@ -1,5 +1,6 @@
-pub mod Walk
+pub mod TreeOrder
+pub mod TotalOrder
+pub mod Log
+pub mod Views
 pub mod Once
-pub mod Gather
-pub mod Graph
-pub mod Seen
+pub mod Merged

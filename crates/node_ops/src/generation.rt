@@ -1,17 +1,13 @@
 // Node map generation.
-ghost use Rattle.std.specs.Prelude.{◌≡◌, true, IfOk, OnOk, MatchResult};
-ghost use Rattle.ld_model.specs.Keys.{id_key};
-ghost use Rattle.ld_model.specs.Plain.{are_plain_items};
-ghost use Rattle.ld_model.specs.NodeMap.{generate};
-ghost use Rattle.ld_tree.specs.View.{view};
-ghost use Rattle.node_ops.specs.Graph.{nodes_view};
-ghost use Rattle.node_ops.specs.Walk.{walk_target};
-ghost use Rattle.node_ops.specs.Gather.{entries_in, with_targets, with_all_targets, gather_item, gather_items};
+ghost use Rattle.std.specs.Prelude.{◌≡◌, Ok, IfOk, MatchResult};
+ghost use Rattle.node_model.specs.Generating.{generate, outcome};
+ghost use Rattle.node_ops.specs.Views.{state_view, Stops};
 
-use crate::graph::{Graph, ensure_node, gather_members, id_of, nodes_of};
-use ld_tree::{Members, Text, Tree, Trees};
+use crate::finishing::graphs_of;
+use crate::nodes::Nodes;
+use ld_tree::{Members, Text, Trees};
+use node_walk::walk_document;
 use std::alloc::{AllocError, Global};
-use std::collections::BTreeMap;
 use thiserror::Error;
 
 /// What node map generation gives: for each name of a graph its nodes, each at its id. The default graph's name is
@@ -22,11 +18,12 @@ pub struct NodeMap {
     pub graphs: Members,
 }
 
-/// Two different `@index` of one node (JSON-LD 1.1 API, section 7.2, step 6.9).
+/// Two different `@index` of one node (JSON-LD 1.1 API, section 7.2, step 6.8). Of several conflicts it is the first one on the way
+/// through the document.
 #[derive(Debug, Drop, Error)]
 #[error("conflicting indexes at {}", .node.as_str())]
 pub struct Conflict {
-    /// The node's id.
+    /// The node's id, as it is in the node map.
     pub node: Text,
     /// The index that it had.
     pub first: Text,
@@ -37,10 +34,10 @@ pub struct Conflict {
 /// Why there is no node map.
 #[derive(Debug, Drop, Error)]
 pub enum MapStop {
-    /// Two different indexes of one node. A plain document has none.
+    /// Two different indexes of one node.
     #[error(transparent)]
     Conflict(Conflict),
-    /// Memory was refused.
+    /// Memory was refused, or more labels than a `u64` can count would have to be issued.
     #[error("out of memory")]
     OutOfMemory,
 }
@@ -55,15 +52,13 @@ impl From<AllocError> for MapStop {
     }
 }
 
-/// The node map of the items of a plain document, and how many labels were issued for it (JSON-LD 1.1 API, section 7.2).
+/// The node map of the items of an expanded document, and how many labels were issued for it (JSON-LD 1.1 API, section 7.2).
 ///
 /// # Errors
 ///
-/// Only `OutOfMemory`.
+/// `Conflict` where a node has two different indexes (step 6.8), and `OutOfMemory`.
 pub fn node_map(alloc: Global, items: &Trees) -> Result<(NodeMap, u64), MapStop>
-    requires { are_plain_items items.now ≡ true }
-    ensures { MatchResult result (λ r. generate items.now ≡ record { graphs = r.0.graphs; issued = r.1 })
-        (λ e. e ≡ MapStop.OutOfMemory) }
+    ensures { MatchResult result (λ r. generate items.now ≡ Ok (record { graphs = r.0.graphs; issued = r.1 })) (Stops (generate items.now)) }
 {
     let copy = copy_of(alloc, items)?;
     into_node_map(alloc, copy)
@@ -83,81 +78,30 @@ fn copy_of(alloc: Global, items: &Trees) -> Result<Trees, AllocError>
 ///
 /// # Errors
 ///
-/// Only `OutOfMemory`.
+/// `Conflict` where a node has two different indexes (step 6.8), and `OutOfMemory`.
 pub fn into_node_map(alloc: Global, items: Trees) -> Result<(NodeMap, u64), MapStop>
-    requires { are_plain_items items ≡ true }
-    ensures { MatchResult result (λ r. generate items ≡ record { graphs = r.0.graphs; issued = r.1 })
-        (λ e. e ≡ MapStop.OutOfMemory) }
+    ensures { MatchResult result (λ r. generate items ≡ Ok (record { graphs = r.0.graphs; issued = r.1 })) (Stops (generate items)) }
 {
-    let mut graph = BTreeMap::new(alloc);
-    gather_items(alloc, &mut graph, items)?;
-    let nodes = nodes_of(alloc, graph)?;
-    let mut graphs = Members::new(alloc);
-    graphs.put(alloc, "@default", Tree::Map(nodes))?;
-    Ok((NodeMap { graphs }, 0))
+    let default_graph = Text::new(alloc, "@default")?;
+    let mut nodes = Nodes::new(alloc, &default_graph)?;
+    walk_document(alloc, &mut nodes, &default_graph, items)?;
+    finished(alloc, nodes)
 }
 
-fn gather_items(alloc: Global, graph: &mut Graph, items: Trees) -> Result<(), AllocError>
-    ensures { OnOk result (nodes_view graph.new.entries ≡ gather_items items (nodes_view graph.old.entries)) }
+/// The first conflict, or else the node map.
+fn finished(alloc: Global, nodes: Nodes) -> Result<(NodeMap, u64), MapStop>
+    ensures { MatchResult result (λ r. outcome (state_view nodes).conflict (state_view nodes) ≡ Ok (record { graphs = r.0.graphs; issued = r.1 }))
+        (Stops (outcome (state_view nodes).conflict (state_view nodes))) }
 {
-    for item in items {
-        gather_item(alloc, graph, item)?;
+    let Nodes {
+        graphs,
+        labels,
+        conflict,
+    } = nodes;
+    if let Some(conflict) = conflict {
+        return Err(MapStop::Conflict(conflict));
     }
-    Ok(())
-}
-
-/// A node object (step 6): the nodes that it refers to are made, and then its own.
-fn gather_item(alloc: Global, graph: &mut Graph, item: Tree) -> Result<(), AllocError>
-    ensures { OnOk result (nodes_view graph.new.entries ≡ gather_item (view item) (nodes_view graph.old.entries)) }
-{
-    let Tree::Map(members) = item else {
-        return Ok(());
-    };
-    if id_of(&members).is_none() {
-        return Ok(());
-    }
-    ensure_all_targets(alloc, graph, &members)?;
-    gather_members(alloc, graph, members)?;
-    Ok(())
-}
-
-/// Makes the nodes that the properties of a node object refer to.
-fn ensure_all_targets(alloc: Global, graph: &mut Graph, members: &Members) -> Result<(), AllocError>
-    ensures { OnOk result (nodes_view graph.new.entries ≡ with_all_targets members.now (nodes_view graph.old.entries)) }
-{
-    for (key, value) in members {
-        if key.as_str() != "@id" {
-            ensure_targets(alloc, graph, value)?;
-        }
-    }
-    Ok(())
-}
-
-/// Makes the nodes that the entries of a property refer to.
-fn ensure_targets(alloc: Global, graph: &mut Graph, value: &Tree) -> Result<(), AllocError>
-    ensures { OnOk result (nodes_view graph.new.entries ≡ with_targets (entries_in (view value.now)) (nodes_view graph.old.entries)) }
-{
-    let Tree::Items(entries) = value else {
-        return Ok(());
-    };
-    for entry in entries {
-        ensure_target(alloc, graph, entry)?;
-    }
-    Ok(())
-}
-
-/// Makes the node that a reference is to (step 6.3); a value is to none.
-fn ensure_target(alloc: Global, graph: &mut Graph, entry: &Tree) -> Result<(), AllocError>
-    ensures { OnOk result (nodes_view graph.new.entries ≡ walk_target (view entry.now) (nodes_view graph.old.entries)) }
-{
-    match entry {
-        Tree::Map(members) => match id_of(members) {
-            Some(id) => {
-                ensure_node(alloc, graph, id)?;
-                Ok(())
-            }
-            None => Ok(()),
-        },
-        _ => Ok(()),
-    }
+    let issued = labels.issued();
+    let graphs = graphs_of(alloc, graphs)?;
+    Ok((NodeMap { graphs }, issued))
 }

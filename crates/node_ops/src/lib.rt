@@ -1,17 +1,19 @@
-//! Node map generation (JSON-LD 1.1 API, section 7.2) for plain documents.
+//! Node map generation (JSON-LD 1.1 API, section 7.2).
 //!
-//! A plain document is an array of node objects, each with an `@id`, whose properties have arrays of value objects with a
-//! text and of references. [`into_node_map`] gathers what it says of each node, and takes the document apart for it;
-//! [`node_map`] does so with a copy.
+//! [`into_node_map`] makes the node map of an expanded document, and takes the document apart for it; [`node_map`] does so with a copy.
 //!
-//! Each item of the document is looked up once by its id, and each reference once by its target. A node that one item
-//! describes is that item, moved; the items of a node that several describe are merged once all of them are there. So
-//! it takes linear time but for the look-ups, in whichever order ids, properties and entries stand.
+//! On the way through the document nothing is compared: each node notes what is told of it. Once all is told, each node is finished by
+//! itself, and given back before the next one: types and entries stand once, and properties in the order of their names. So the whole
+//! takes n log n steps, in whichever order nodes, properties, types and entries come, and whatever they are.
 #![tactic(auto)]
 
+mod finishing;
 mod generation;
-mod graph;
-mod merging;
+mod labels;
+mod node;
+mod nodes;
 mod repeats;
+mod telling;
+mod tree_order;
 
 pub use generation::{Conflict, MapStop, NodeMap, into_node_map, node_map};

@@ -1,6 +1,0 @@
-use Rattle.std.proofs.Common.{◌≡◌, ◌++◌}
-use Rattle.ld_tree.specs.View.{members_view}
-use Rattle.node_ops.proofs.merging.members_of.Given as goal
-
-abbrev pub invariant-loop-key : goal.invariant-loop-key
-invariant-loop-key l = l.members ++ members_view l.key-iterator ≡ members_view l.fn.values.entries

@@ -1,7 +1,0 @@
-use Rattle.std.proofs.Common.{ap, ◌∙◌}
-use Rattle.ld_tree.specs.View.{view, members_view}
-use Rattle.node_ops.proofs.GraphLemmas.{shown-new}
-use Rattle.node_ops.proofs.merging.put_value.Goals as goal
-
-pub returns-in-Ok : goal.returns-in-Ok
-returns-in-Ok c = ap members_view c.in-Ok.ensures.entries ∙ shown-new (λ k v. view v) c.args.key c.args.value c.args.values.now.entries
