@@ -1,7 +1,6 @@
 // Statuses and refusals in words, which are those of their lines.
 use crate::status::{
-    FOLDER_FAULT, OUT_OF_MEMORY, READ_FAULT, Refusal, SYNTAX, Status, TOO_LARGE, USAGE,
-    WRITE_FAULT,
+    FOLDER_FAULT, OUT_OF_MEMORY, READ_FAULT, Refusal, SYNTAX, Status, TOO_LARGE, USAGE, WRITE_FAULT,
 };
 use std::error::Error;
 use std::fmt;

@@ -5,11 +5,14 @@ use std::alloc::{AllocError, Global};
 use std::test::Fail;
 
 // A value, a reference, a graph of its own with a list in it, a label used twice and a node without one.
-const DOCUMENT: &str = r#"[{"@id":"e:a","e:p":[{"@value":"x"},{"@id":"e:b"}]},{"@id":"_:x","@graph":[{"e:p":[{"@list":[{"@id":"_:x"}]}]}]}]"#;
+const DOCUMENT: &str =
+    r#"[{"@id":"e:a","e:p":[{"@value":"x"},{"@id":"e:b"}]},{"@id":"_:x","@graph":[{"e:p":[{"@list":[{"@id":"_:x"}]}]}]}]"#;
 
-const NODE_MAP: &str = r#"{"@default":{"_:b0":{"@id":"_:b0"},"e:a":{"@id":"e:a","e:p":[{"@value":"x"},{"@id":"e:b"}]},"e:b":{"@id":"e:b"}},"_:b0":{"_:b0":{"@id":"_:b0"},"_:b1":{"@id":"_:b1","e:p":[{"@list":[{"@id":"_:b0"}]}]}}}"#;
+const NODE_MAP: &str =
+    r#"{"@default":{"_:b0":{"@id":"_:b0"},"e:a":{"@id":"e:a","e:p":[{"@value":"x"},{"@id":"e:b"}]},"e:b":{"@id":"e:b"}},"_:b0":{"_:b0":{"@id":"_:b0"},"_:b1":{"@id":"_:b1","e:p":[{"@list":[{"@id":"_:b0"}]}]}}}"#;
 
-const FLATTENED: &str = r#"[{"@graph":[{"@id":"_:b1","e:p":[{"@list":[{"@id":"_:b0"}]}]}],"@id":"_:b0"},{"@id":"e:a","e:p":[{"@value":"x"},{"@id":"e:b"}]}]"#;
+const FLATTENED: &str =
+    r#"[{"@graph":[{"@id":"_:b1","e:p":[{"@list":[{"@id":"_:b0"}]}]}],"@id":"_:b0"},{"@id":"e:a","e:p":[{"@value":"x"},{"@id":"e:b"}]}]"#;
 
 fn items_of(alloc: Global, text: &str) -> Result<Trees, AllocError> {
     match read_tree(alloc, text.as_bytes()) {
