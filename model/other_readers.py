@@ -103,6 +103,8 @@ def some_lists(task):
             if read_by(reader, quads, path) == quads:
                 counted[reader, "lists read the same"] += 1
                 counted[reader, "quads read the same"] += len(quads)
+                differing += [(number, reader, written([quad]), "the same")
+                              for quad in quads if known[reader](quad)]
                 continue
             counted[reader, "lists taken quad by quad"] += 1
             for quad in quads:
