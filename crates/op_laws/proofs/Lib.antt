@@ -13,3 +13,4 @@ mod Told
 mod Sound
 mod FirstConflict
 mod Examples
+mod Added

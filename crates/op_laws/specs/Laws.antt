@@ -3,11 +3,12 @@ use Rattle.std.specs.Prelude.{ℕ, ◌+◌, ◌^◌, ◌≡◌, ◌≤◌, List,
 use Rattle.std.specs.List.{flat_map, AllByRecursion}
 use Rattle.ld_model.specs.Tree.{Tree, array, trees_of}
 use Rattle.node_model.specs.Walk.{walk}
+use Rattle.node_model.specs.NodeMap.{told, type_told}
 use Rattle.node_model.specs.Generating.{generating, empty, walked}
 use Rattle.op_model.specs.Names.{Name}
-use Rattle.op_model.specs.Ops.{Entry, Op}
+use Rattle.op_model.specs.Ops.{Entry, with_entry, Op}
 use Rattle.op_model.specs.Noting.{range, top_range, place_of_items, ops_of, ops_of_chunks}
-use Rattle.op_model.specs.Running.{used, label_in, entry_in, uses_of_all, labelled, apply_all, Run, run, before}
+use Rattle.op_model.specs.Running.{with_name, used, label_in, entry_in, uses_of_all, labelled, apply_all, Run, run, before}
 use Rattle.op_laws.specs.Words.{is_known, IsPlaceKnown, place_in, IsReady}
 use Rattle.op_laws.specs.Own.{HasOwn, EntryHasOwn}
 use Rattle.op_laws.specs.Told.{AreTold, conflict_told}
@@ -43,6 +44,13 @@ NamesAreToldApart = (names : List Name) (a b : Name) → length names ≤ 2 ^ 64
 -- Two entries that become one are one.
 abbrev pub EntriesAreToldApart : Type 0
 EntriesAreToldApart = (names : List Name) (e f : Entry) → length names ≤ 2 ^ 64 → EntryHasOwn names e → EntryHasOwn names f → entry_in names e ≡ entry_in names f → e ≡ f
+
+-- Adding to types or entries comes to the same before labels are put in place of names, and after.
+abbrev pub AddingIsAlike : Type 0
+AddingIsAlike =
+    (names : List Name) → length names ≤ 2 ^ 64 →
+    ((t : Name) (ts : List Name) → HasOwn names t → AllByRecursion (HasOwn names) ts → type_told (label_in names t) (each (label_in names) ts) ≡ each (label_in names) (with_name ts t))
+    × ((e : Entry) (es : List Entry) → EntryHasOwn names e → AllByRecursion (EntryHasOwn names) es → told (entry_in names e) (each (entry_in names) es) ≡ each (entry_in names) (with_entry e es))
 
 -- The node map has what the operations tell, and nothing else.
 abbrev pub NodeMapsAreTold : Type 0

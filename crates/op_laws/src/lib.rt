@@ -4,7 +4,7 @@
 //! There is no code here. Each function does nothing, and its contract is one law, which `specs/Laws.antt` states.
 #![tactic(auto)]
 
-ghost use Rattle.op_laws.specs.Laws.{ARangeRunsAnywhere, EntriesAreToldApart, FirstUsesAreEnough, LabelsCanBeNumberedFirst, NamesAreToldApart, NodeMapsAreTold, OperationsAreGeneration, OperationsAreSound, TheFirstConflictIsTold};
+ghost use Rattle.op_laws.specs.Laws.{ARangeRunsAnywhere, AddingIsAlike, EntriesAreToldApart, FirstUsesAreEnough, LabelsCanBeNumberedFirst, NamesAreToldApart, NodeMapsAreTold, OperationsAreGeneration, OperationsAreSound, TheFirstConflictIsTold};
 
 /// The operations of a document's chunks, run one after another, come to what node map generation comes to (JSON-LD 1.1 API, section
 /// 7.2): the same node map, the same labels, as many of them, and the same first conflict of indexes. This holds of any list of trees and
@@ -43,6 +43,12 @@ pub fn names_are_told_apart()
 /// equal value or reference is found under names exactly where it is found under labels.
 pub fn entries_are_told_apart()
     ensures { EntriesAreToldApart }
+{}
+
+/// A type is added to types, and an entry to entries, in the same way by names as by labels, where these are told apart: an equal type,
+/// value or reference is added once, and a list in any case. So labels can be put in place of names once all is added.
+pub fn adding_is_alike()
+    ensures { AddingIsAlike }
 {}
 
 /// The node map has what the operations tell, and nothing else (JSON-LD 1.1 API, section 7.2). Beside the default graph, the graphs are

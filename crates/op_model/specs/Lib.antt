@@ -2,3 +2,4 @@ pub mod Names
 pub mod Ops
 pub mod Noting
 pub mod Running
+pub mod Shards
