@@ -14,3 +14,4 @@ mod Sound
 mod FirstConflict
 mod Examples
 mod Added
+mod Owned

@@ -10,7 +10,7 @@ use Rattle.op_model.specs.Ops.{Entry, with_entry, Op}
 use Rattle.op_model.specs.Noting.{range, top_range, place_of_items, ops_of, ops_of_chunks}
 use Rattle.op_model.specs.Running.{with_name, used, label_in, entry_in, uses_of_all, labelled, apply_all, Run, run, before}
 use Rattle.op_laws.specs.Words.{is_known, IsPlaceKnown, place_in, IsReady}
-use Rattle.op_laws.specs.Own.{HasOwn, EntryHasOwn}
+use Rattle.op_laws.specs.Own.{HasOwn, EntryHasOwn, OpHasOwn}
 use Rattle.op_laws.specs.Told.{AreTold, conflict_told}
 use Rattle.op_laws.specs.Sound.{IsSoundName, IsSoundPlace, IsSound}
 
@@ -65,3 +65,7 @@ abbrev pub OperationsAreSound : Type 0
 OperationsAreSound =
     (number : ℕ) (items : List Tree) (graph : Name) (subject property : Option Name) (reversed : Bool)
     → IsSoundName graph → IsSoundPlace (place_of_items subject property reversed) → AllByRecursion IsSound (ops_of number (range items graph subject property reversed))
+
+-- Once labels are numbered by them, operations of this form have names and entries that are told apart.
+abbrev pub SoundNamesHaveOwnLabels : Type 0
+SoundNamesHaveOwnLabels = (os : List Op) → AllByRecursion IsSound os → AllByRecursion (OpHasOwn (used [] (uses_of_all os))) os

@@ -4,7 +4,7 @@
 //! There is no code here. Each function does nothing, and its contract is one law, which `specs/Laws.antt` states.
 #![tactic(auto)]
 
-ghost use Rattle.op_laws.specs.Laws.{ARangeRunsAnywhere, AddingIsAlike, EntriesAreToldApart, FirstUsesAreEnough, LabelsCanBeNumberedFirst, NamesAreToldApart, NodeMapsAreTold, OperationsAreGeneration, OperationsAreSound, TheFirstConflictIsTold};
+ghost use Rattle.op_laws.specs.Laws.{ARangeRunsAnywhere, AddingIsAlike, EntriesAreToldApart, FirstUsesAreEnough, LabelsCanBeNumberedFirst, NamesAreToldApart, NodeMapsAreTold, OperationsAreGeneration, OperationsAreSound, SoundNamesHaveOwnLabels, TheFirstConflictIsTold};
 
 /// The operations of a document's chunks, run one after another, come to what node map generation comes to (JSON-LD 1.1 API, section
 /// 7.2): the same node map, the same labels, as many of them, and the same first conflict of indexes. This holds of any list of trees and
@@ -72,4 +72,10 @@ pub fn the_first_conflict_is_told()
 /// the name of the default graph is such a name, and there is no subject.
 pub fn operations_are_sound()
     ensures { OperationsAreSound }
+{}
+
+/// In operations of this form every name is told apart by its label, and every entry by what it becomes, once labels are numbered by the
+/// uses of these operations. So `names_are_told_apart`, `entries_are_told_apart` and `adding_is_alike` speak of all that is in them.
+pub fn sound_names_have_own_labels()
+    ensures { SoundNamesHaveOwnLabels }
 {}
