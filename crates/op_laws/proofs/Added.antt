@@ -23,7 +23,7 @@ each_with_last f [] x = refl
 each_with_last f (y ∷ xs) x = ap (λ l. f y ∷ l) (each_with_last f xs x)
 
 -- Unless the answer is yes, one more at the end.
-last_alike : {X Y : Type 0} (f : X → Y) (b c : Bool) (xs : List X) (x : X) → b ≡ c → (if b then each f xs else (each f xs ++ f x ∷ [])) ≡ each f (if c then xs else (xs ++ x ∷ []))
+pub last_alike : {X Y : Type 0} (f : X → Y) (b c : Bool) (xs : List X) (x : X) → b ≡ c → (if b then each f xs else (each f xs ++ f x ∷ [])) ≡ each f (if c then xs else (xs ++ x ∷ []))
 last_alike f true true xs x same = refl
 last_alike f false false xs x same = sym (each_with_last f xs x)
 last_alike f true false xs x same = absurd (cc)

@@ -15,3 +15,4 @@ mod FirstConflict
 mod Examples
 mod Added
 mod Owned
+mod Exchanged

@@ -7,11 +7,12 @@ use Rattle.node_model.specs.NodeMap.{told, type_told}
 use Rattle.node_model.specs.Generating.{generating, empty, walked}
 use Rattle.op_model.specs.Names.{Name}
 use Rattle.op_model.specs.Ops.{Entry, with_entry, Op}
-use Rattle.op_model.specs.Noting.{range, top_range, place_of_items, ops_of, ops_of_chunks}
+use Rattle.op_model.specs.Noting.{Chunk, range, top_range, place_of_items, ops_of, ops_of_chunks}
 use Rattle.op_model.specs.Running.{with_name, used, label_in, entry_in, uses_of_all, labelled, apply_all, Run, run, before}
 use Rattle.op_laws.specs.Words.{is_known, IsPlaceKnown, place_in, IsReady}
 use Rattle.op_laws.specs.Own.{HasOwn, EntryHasOwn, OpHasOwn}
 use Rattle.op_laws.specs.Told.{AreTold, conflict_told}
+use Rattle.op_laws.specs.Exchanged.{Exchange, exchanged, exchanged_op, IsOneToOne, Divides}
 use Rattle.op_laws.specs.Sound.{IsSoundName, IsSoundPlace, IsSound}
 
 -- The items of a document, divided into chunks in any way: the operations of these, run one after another, come to the state of
@@ -69,3 +70,13 @@ OperationsAreSound =
 -- Once labels are numbered by them, operations of this form have names and entries that are told apart.
 abbrev pub SoundNamesHaveOwnLabels : Type 0
 SoundNamesHaveOwnLabels = (os : List Op) → AllByRecursion IsSound os → AllByRecursion (OpHasOwn (used [] (uses_of_all os))) os
+
+-- It makes no difference how fresh names are chosen, if different nodes have different ones.
+abbrev pub FreshNamesCanBeExchanged : Type 0
+FreshNamesCanBeExchanged =
+    (other : Exchange) (os : List Op) → IsOneToOne other (uses_of_all os)
+    → run (each (exchanged_op other) os) before ≡ record { names = each (exchanged other) (run os before).names; state = (run os before).state }
+
+-- A document divided into chunks of any kind: their operations come to the state of generation after the whole document.
+abbrev pub DivisionsAreGeneration : Type 0
+DivisionsAreGeneration = (chunks : List Chunk) (items : List Tree) → Divides chunks items → (run (ops_of_chunks 0 chunks) before).state ≡ walked items

@@ -4,7 +4,7 @@
 //! There is no code here. Each function does nothing, and its contract is one law, which `specs/Laws.antt` states.
 #![tactic(auto)]
 
-ghost use Rattle.op_laws.specs.Laws.{ARangeRunsAnywhere, AddingIsAlike, EntriesAreToldApart, FirstUsesAreEnough, LabelsCanBeNumberedFirst, NamesAreToldApart, NodeMapsAreTold, OperationsAreGeneration, OperationsAreSound, SoundNamesHaveOwnLabels, TheFirstConflictIsTold};
+ghost use Rattle.op_laws.specs.Laws.{ARangeRunsAnywhere, AddingIsAlike, DivisionsAreGeneration, EntriesAreToldApart, FirstUsesAreEnough, FreshNamesCanBeExchanged, LabelsCanBeNumberedFirst, NamesAreToldApart, NodeMapsAreTold, OperationsAreGeneration, OperationsAreSound, SoundNamesHaveOwnLabels, TheFirstConflictIsTold};
 
 /// The operations of a document's chunks, run one after another, come to what node map generation comes to (JSON-LD 1.1 API, section
 /// 7.2): the same node map, the same labels, as many of them, and the same first conflict of indexes. This holds of any list of trees and
@@ -18,6 +18,18 @@ pub fn operations_are_generation()
 /// chunk with this number or a later one has run. Then the next chunk can follow.
 pub fn a_range_runs_anywhere()
     ensures { ARangeRunsAnywhere }
+{}
+
+/// It makes no difference what nodes without an id are called in operations, as long as different ones are called differently: with other
+/// fresh names the operations come to the same state, and to the same names in the same order, but for the exchange.
+pub fn fresh_names_can_be_exchanged()
+    ensures { FreshNamesCanBeExchanged }
+{}
+
+/// A document may be divided in any way into chunks, ranges within it and the steps between these, whose operations, one after another,
+/// are those of the whole document but for the names of nodes without an id. Then they come to what generation comes to.
+pub fn divisions_are_generation()
+    ensures { DivisionsAreGeneration }
 {}
 
 /// Labels can be numbered before any operation is applied (JSON-LD 1.1 API, section 7.4). The names that operations use, each where it is
