@@ -17,3 +17,5 @@ pub mod PlainKeys
 pub mod PlainDocuments
 pub mod Issued
 pub mod Determined
+pub mod RenamedWalk
+pub mod Renaming

@@ -215,7 +215,7 @@ told_alike = record { states = Told; names = λ s n m. n ≡ m; properties = λ 
 reach : (s r : State) (t : Stating) → Told r t → Reach told_alike s r t
 reach s r t is = record { states = is; lasts = record { names = λ n m is. is; properties = λ n m is. is; entries = λ e f is. is } }
 
-same_lists : (es fs : List Tree) → Pairwise (λ e f. e ≡ f) es fs → es ≡ fs
+pub same_lists : (es fs : List Tree) → Pairwise (λ e f. e ≡ f) es fs → es ≡ fs
 same_lists [] [] is = refl
 same_lists (e ∷ es) (f ∷ fs) is = λ i. is.0 i ∷ same_lists es fs is.1 i
 same_lists [] (f ∷ fs) is = absurd is

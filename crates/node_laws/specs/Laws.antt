@@ -1,5 +1,5 @@
 -- The laws of node map generation.
-use Rattle.std.specs.Prelude.{◌++◌, Err, length, ℕ, ◌≡◌, ◌↔◌, List, true, Some, Ok}
+use Rattle.std.specs.Prelude.{ℕ, map as each, ◌++◌, Err, length, ◌≡◌, ◌↔◌, List, true, Some, Ok}
 use Rattle.std.specs.List.{AllByRecursion}
 use Rattle.ld_model.specs.Tree.{Tree, Pairs, text, object, member_list, member_at, AreAscending}
 use Rattle.ld_model.specs.Keys.{id_key}
@@ -9,6 +9,7 @@ use Rattle.node_model.specs.DueForm.{has_due_form}
 use Rattle.node_model.specs.NodeMap.{Conflict}
 use Rattle.node_model.specs.Generating.{Generated, generate, walked}
 use Rattle.node_laws.specs.Names.{names_in, IsIssued}
+use Rattle.node_laws.specs.Renamed.{IsRenaming, renamed}
 use Rattle.node_laws.specs.Stated.{first, stated_in, conflicts_in, IsAsStated}
 use Rattle.node_laws.specs.Uses.{uses_in, AreNumbered}
 
@@ -55,6 +56,10 @@ OutcomeIsDetermined = (ts : List Tree) (m : Generated) → generate ts ≡ Ok m 
 -- Generation fails exactly where there is a conflict of indexes, and with the first one.
 abbrev pub ConflictsAreThoseStated : Type 0
 ConflictsAreThoseStated = (ts : List Tree) (c : Conflict) → (generate ts ≡ Err c) ↔ (first (conflicts_in (stated_in ts)) ≡ Some c)
+
+-- Which labels a document has for its blank nodes makes no difference.
+abbrev pub RenamingLabelsChangesNothing : Type 0
+RenamingLabelsChangesNothing = (to : List ℕ → List ℕ) → IsRenaming to → (ts : List Tree) → generate (each (renamed to) ts) ≡ generate ts
 
 -- For a plain document generation gives what its definition for plain documents gives.
 abbrev pub PlainDocumentsAreACase : Type 0

@@ -4,7 +4,7 @@
 //! `proofs/Alike.antt` serves whoever walks a document with other steps: steps that answer alike make walks that end alike.
 #![tactic(auto)]
 
-ghost use Rattle.node_laws.specs.Laws.{BlankNodesHaveIssuedLabels, ConflictsAreThoseStated, LabelsAreIssuedInOrder, NodeMapsAreAsStated, NodeMapsHaveTheDueForm, OutcomeIsDetermined, PlainDocumentsAreACase, TheFirstConflictStays};
+ghost use Rattle.node_laws.specs.Laws.{BlankNodesHaveIssuedLabels, ConflictsAreThoseStated, LabelsAreIssuedInOrder, NodeMapsAreAsStated, NodeMapsHaveTheDueForm, OutcomeIsDetermined, PlainDocumentsAreACase, RenamingLabelsChangesNothing, TheFirstConflictStays};
 
 /// The node map of any list of trees, where there is no conflict of indexes, has the due form (JSON-LD 1.1 API, section 7.2): the
 /// default graph is there, each graph is a map from ids to nodes, and each node a map with its id, perhaps an index and types, and for
@@ -56,6 +56,13 @@ pub fn outcome_is_determined()
 /// and tells the first index, in the order of the walk, that differs from the first one of its node, with both and the node.
 pub fn conflicts_are_those_stated()
     ensures { ConflictsAreThoseStated }
+{}
+
+/// Which labels a document has for its blank nodes makes no difference: where its labels are replaced by others, two never by the same
+/// one, generation gives the same node map with as many labels, or the same conflict. Ids, types and properties are renamed where they
+/// stand. So where a property is a label itself, it keeps its place among the entries, whatever the order of the new labels is.
+pub fn renaming_labels_changes_nothing()
+    ensures { RenamingLabelsChangesNothing }
 {}
 
 /// For a plain document, whose items are node objects with an id and with texts and references under their properties, generation gives
