@@ -11,8 +11,9 @@ use Rattle.ld_model.proofs.SameTree.{same_tree-exact, same_tree-from, same_tree-
 use Rattle.node_model.specs.Keys.{list_key}
 use Rattle.node_model.specs.NodeMap.{is_list_object, told, type_told}
 use Rattle.op_model.specs.Names.{Name, same_name}
-use Rattle.op_model.specs.Ops.{Entry, value, reference, list, repeats, with_entry}
+use Rattle.op_model.specs.Ops.{Entry, value, reference, list, same_entry}
 use Rattle.op_model.specs.Running.{with_name, label_in, entry_in}
+use Rattle.op_laws.specs.Words.{with_entry}
 use Rattle.op_laws.specs.Own.{HasOwn, is_value, EntryHasOwn}
 use Rattle.op_laws.specs.Laws.{AddingIsAlike}
 use Rattle.op_laws.proofs.SameName.{same_name-exact, same_name-refl}
@@ -38,10 +39,10 @@ no_list_object (object (member k (array ts) no_members)) is = by_test (bytes_eq 
     by_test false apart = refl
 no_list_object _ is = refl
 
-repeats_exact : (e f : Entry) → repeats e f ≡ true → e ≡ f
-repeats_exact (value a) (value b) same = ap value (same_tree-exact a b same)
-repeats_exact (reference a) (reference b) same = ap reference (same_name-exact a b same)
-repeats_exact _ _ same = absurd (cc)
+same_entry-exact : (e f : Entry) → same_entry e f ≡ true → e ≡ f
+same_entry-exact (value a) (value b) same = ap value (same_tree-exact a b same)
+same_entry-exact (reference a) (reference b) same = ap reference (same_name-exact a b same)
+same_entry-exact _ _ same = absurd (cc)
 
 module _ (names : List Name) (few : length names ≤ 2 ^ 64) where
   pub name_test : (a b : Name) → HasOwn names a → HasOwn names b → bytes_eq (label_in names a) (label_in names b) ≡ same_name a b
@@ -58,30 +59,30 @@ module _ (names : List Name) (few : length names ≤ 2 ^ 64) where
   unfolding with_name
   types_alike t ts first all = last_alike (label_in names) (list_any (bytes_eq (label_in names t)) (each (label_in names) ts)) (list_any (same_name t) ts) ts t (any_name t ts first all)
 
-  -- For an entry that repeats itself, as a value and a reference do.
-  entry_test : (e f : Entry) → repeats e e ≡ true → EntryHasOwn names e → EntryHasOwn names f → same_tree (entry_in names e) (entry_in names f) ≡ repeats e f
+  -- For an entry that is the same as itself, as a value and a reference are.
+  entry_test : (e f : Entry) → same_entry e e ≡ true → EntryHasOwn names e → EntryHasOwn names f → same_tree (entry_in names e) (entry_in names f) ≡ same_entry e f
   entry_test e f itself first second =
-      one_answer {P = e ≡ f} (same_tree (entry_in names e) (entry_in names f)) (repeats e f)
+      one_answer {P = e ≡ f} (same_tree (entry_in names e) (entry_in names f)) (same_entry e f)
       (λ same. one_entry names few e f first second (same_tree-exact (entry_in names e) (entry_in names f) same), λ is. same_tree-from (entry_in names e) (entry_in names f) (ap (entry_in names) is))
-      (repeats_exact e f, λ is. subst (λ x. repeats e x ≡ true) is itself)
+      (same_entry-exact e f, λ is. subst (λ x. same_entry e x ≡ true) is itself)
 
-  any_entry : (e : Entry) (es : List Entry) → repeats e e ≡ true → EntryHasOwn names e → AllByRecursion (EntryHasOwn names) es → list_any (same_tree (entry_in names e)) (each (entry_in names) es) ≡ list_any (repeats e) es
+  any_entry : (e : Entry) (es : List Entry) → same_entry e e ≡ true → EntryHasOwn names e → AllByRecursion (EntryHasOwn names) es → list_any (same_tree (entry_in names e)) (each (entry_in names) es) ≡ list_any (same_entry e) es
   any_entry e [] itself first all = refl
   any_entry e (f ∷ es) itself first all = ap₂ ◌||◌ (entry_test e f itself first all.0) (any_entry e es itself first all.1)
 
-  added_alike : (e : Entry) (es : List Entry) → repeats e e ≡ true → is_list_object (entry_in names e) ≡ false → EntryHasOwn names e → AllByRecursion (EntryHasOwn names) es
+  added_alike : (e : Entry) (es : List Entry) → same_entry e e ≡ true → is_list_object (entry_in names e) ≡ false → EntryHasOwn names e → AllByRecursion (EntryHasOwn names) es
       → told (entry_in names e) (each (entry_in names) es) ≡ each (entry_in names) (with_entry e es)
   unfolding added
   added_alike e es itself no_list first all =
       ap (λ b. if b then (each (entry_in names) es ++ entry_in names e ∷ []) else added (entry_in names e) (each (entry_in names) es)) no_list
-      ∙ last_alike (entry_in names) (list_any (same_tree (entry_in names e)) (each (entry_in names) es)) (list_any (repeats e) es) es e (any_entry e es itself first all)
+      ∙ last_alike (entry_in names) (list_any (same_tree (entry_in names e)) (each (entry_in names) es)) (list_any (same_entry e) es) es e (any_entry e es itself first all)
 
   entries_alike : (e : Entry) (es : List Entry) → EntryHasOwn names e → AllByRecursion (EntryHasOwn names) es → told (entry_in names e) (each (entry_in names) es) ≡ each (entry_in names) (with_entry e es)
   entries_alike (value t) es first all = added_alike (value t) es (same_tree-refl t) (no_list_object t first) first all
   entries_alike (reference n) es first all = added_alike (reference n) es (same_name-refl n) refl first all
-  entries_alike (list items) es first all = last_alike (entry_in names) false (list_any (repeats (list items)) es) es (list items) (sym (none es))
+  entries_alike (list items) es first all = last_alike (entry_in names) false (list_any (same_entry (list items)) es) es (list items) (sym (none es))
     where
-      none : (es : List Entry) → list_any (repeats (list items)) es ≡ false
+      none : (es : List Entry) → list_any (same_entry (list items)) es ≡ false
       none [] = refl
       none (e ∷ es) = none es
 

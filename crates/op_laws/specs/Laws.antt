@@ -6,10 +6,10 @@ use Rattle.node_model.specs.Walk.{walk}
 use Rattle.node_model.specs.NodeMap.{told, type_told}
 use Rattle.node_model.specs.Generating.{generating, empty, walked}
 use Rattle.op_model.specs.Names.{Name}
-use Rattle.op_model.specs.Ops.{Entry, with_entry, Op}
+use Rattle.op_model.specs.Ops.{Entry, Op}
 use Rattle.op_model.specs.Noting.{Chunk, range, top_range, place_of_items, ops_of, ops_of_chunks}
 use Rattle.op_model.specs.Running.{with_name, used, label_in, entry_in, uses_of_all, labelled, apply_all, Run, run, before}
-use Rattle.op_laws.specs.Words.{is_known, IsPlaceKnown, place_in, IsReady}
+use Rattle.op_laws.specs.Words.{is_known, IsPlaceKnown, place_in, IsReady, with_entry}
 use Rattle.op_laws.specs.Own.{HasOwn, EntryHasOwn, OpHasOwn}
 use Rattle.op_laws.specs.Told.{AreTold, conflict_told}
 use Rattle.op_laws.specs.Exchanged.{Exchange, exchanged, exchanged_op, IsOneToOne, Divides}

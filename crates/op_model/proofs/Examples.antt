@@ -8,9 +8,8 @@ use Rattle.node_model.specs.Maps.{with_at}
 use Rattle.node_model.specs.NodeMap.{Node, list_object}
 use Rattle.node_model.specs.Generating.{walked}
 use Rattle.op_model.specs.Names.{Name, iri, source, fresh}
-use Rattle.op_model.specs.Ops.{Op, value, reference, list, no_entries, entry, with_entry, use_label, ensure_graph, ensure_node, ensure_property, add_entry, append_list, add_type, set_index}
+use Rattle.op_model.specs.Ops.{Op, value, reference, list, no_entries, entry, same_entry, use_label, ensure_graph, ensure_node, ensure_property, add_entry, append_list, add_type, set_index}
 use Rattle.op_model.specs.Noting.{range, top_range, spine, is_placed, ops_of, ops_of_chunks}
-use Rattle.op_model.specs.Shards.{shard_of, shard_of_op}
 use Rattle.op_model.specs.Running.{with_name, used, label_in, uses, run, before}
 
 abbrev map : Pairs → Tree
@@ -134,11 +133,11 @@ lists_are_kept : (run entries_twice before).state.graphs
 unfolding with_name with_at added
 lists_are_kept = refl
 
-an_equal_entry_repeats : with_entry (reference (fresh 0 0)) (value v ∷ reference (fresh 0 0) ∷ []) ≡ value v ∷ reference (fresh 0 0) ∷ []
-an_equal_entry_repeats = refl
+an_equal_value_is_the_same : same_entry (value v) (value v) ≡ true
+an_equal_value_is_the_same = refl
 
-a_list_repeats_nothing : with_entry (list no_entries) (list no_entries ∷ []) ≡ list no_entries ∷ list no_entries ∷ []
-a_list_repeats_nothing = refl
+an_equal_list_is_another : same_entry (list no_entries) (list no_entries) ≡ false
+an_equal_list_is_another = refl
 
 -- Where a range may stand.
 a_subject_wants_a_property : is_placed (range [] default (Some (iri a)) None false) ≡ false
@@ -149,16 +148,3 @@ nothing_is_reversed_alone = refl
 
 the_top_is_placed : is_placed (top_range one) ≡ true
 the_top_is_placed = refl
-
--- 31 * (31 * 97 + 98) + 99 is 96,354.
-bytes_are_folded : shard_of 64 (iri (codes "abc")) ≡ 34
-bytes_are_folded = refl
-
-a_sum_wraps : shard_of 64 (fresh 4294967295 4294967299) ≡ 36
-a_sum_wraps = refl
-
-an_operation_goes_with_its_node : shard_of_op 64 (add_type default (iri (codes "abc")) default) ≡ Some 34
-an_operation_goes_with_its_node = refl
-
-a_label_goes_nowhere : shard_of_op 64 (use_label (source (codes "_:x"))) ≡ None
-a_label_goes_nowhere = refl

@@ -2,4 +2,3 @@ pub mod Names
 pub mod Ops
 pub mod Noting
 pub mod Running
-pub mod Shards

@@ -1,6 +1,5 @@
 -- Operations: what a step of node map generation does to the node map (JSON-LD 1.1 API, section 7.2), with names in place of labels.
-use Rattle.std.specs.Prelude.{ℕ, List, [], ◌∷◌, ◌++◌, Bool, false, if◌then◌else◌}
-use Rattle.std.specs.List.{list_any}
+use Rattle.std.specs.Prelude.{ℕ, List, [], ◌∷◌, Bool, false}
 use Rattle.ld_model.specs.Tree.{Tree, same_tree}
 use Rattle.op_model.specs.Names.{Name, same_name}
 
@@ -23,15 +22,11 @@ abbrev pub entry_list : Entries → List Entry
 entry_list no_entries = []
 entry_list (entry e es) = e ∷ entry_list es
 
--- A value repeats an equal one, and a reference one to the same node. A list repeats nothing.
-abbrev pub repeats : Entry → Entry → Bool
-repeats (value a) (value b) = same_tree a b
-repeats (reference a) (reference b) = same_name a b
-repeats _ _ = false
-
--- The entries of a property, with this one at their end unless it repeats one of them.
-abbrev pub with_entry : Entry → List Entry → List Entry
-with_entry e es = if list_any (repeats e) es then es else (es ++ e ∷ [])
+-- An equal value, or a reference to the same node. A list is the same as nothing, since each list is kept.
+abbrev pub same_entry : Entry → Entry → Bool
+same_entry (value a) (value b) = same_tree a b
+same_entry (reference a) (reference b) = same_name a b
+same_entry _ _ = false
 
 pub data Op : Type 0 where
   -- a label of the document is needed: that of a type, or of a reverse property

@@ -4,5 +4,5 @@
 //! the node map, with names in place of labels; so the operations of each part are had from that part alone.
 //! `specs/Names.antt` has the names, `specs/Ops.antt` the operations, `specs/Noting.antt` those of a chunk of a document, as another
 //! record of steps for the one traversal of `node_model`; and `specs/Running.antt` what operations make of a node map, under labels that
-//! are numbered by the first uses of names. `specs/Shards.antt` deals operations out. There is no code here. `op_laws` has the laws.
+//! are numbered by the first uses of names. There is no code here. `op_laws` has the laws.
 #![tactic(auto)]
