@@ -50,7 +50,7 @@ module _ (names : List Name) (few : length names ≤ 2 ^ 64) where
       let less_b = place_is_less b names second in
       one_place a b names first second (one_number (place_of a names) (place_of b names) (omega arith) (omega arith) same)
 
-  one_name : (a b : Name) → HasOwn names a → HasOwn names b → label_in names a ≡ label_in names b → a ≡ b
+  pub one_name : (a b : Name) → HasOwn names a → HasOwn names b → label_in names a ≡ label_in names b → a ≡ b
   one_name (iri s) (iri t) first second same = ap iri same
   one_name (iri s) (source t) first second same = absurd (no_label s (place_of (source t) names) first same)
   one_name (iri s) (fresh c k) first second same = absurd (no_label s (place_of (fresh c k) names) first same)
@@ -84,7 +84,7 @@ module _ (names : List Name) (few : length names ≤ 2 ^ 64) where
   one_list ts us same = sym (tree_list-trees_of ts) ∙ ap items_of same ∙ tree_list-trees_of us
 
   mutual
-    one_entry : (e f : Entry) → EntryHasOwn names e → EntryHasOwn names f → entry_in names e ≡ entry_in names f → e ≡ f
+    pub one_entry : (e f : Entry) → EntryHasOwn names e → EntryHasOwn names f → entry_in names e ≡ entry_in names f → e ≡ f
     one_entry (value t) (value u) first second same = ap value same
     one_entry (value t) (reference n) first second same = absurd (no_reference t (label_in names n) first same)
     one_entry (value t) (list es) first second same = absurd (no_list t (entries_in names es) first same)

@@ -3,14 +3,16 @@ use Rattle.std.specs.Prelude.{ℕ, ◌+◌, ◌^◌, ◌≡◌, ◌≤◌, List,
 use Rattle.std.specs.List.{flat_map, AllByRecursion}
 use Rattle.ld_model.specs.Tree.{Tree, array, trees_of}
 use Rattle.node_model.specs.Walk.{walk}
+use Rattle.node_model.specs.NodeMap.{told, type_told}
 use Rattle.node_model.specs.Generating.{generating, empty, walked}
 use Rattle.op_model.specs.Names.{Name}
 use Rattle.op_model.specs.Ops.{Entry, Op}
-use Rattle.op_model.specs.Noting.{range, top_range, place_of_items, ops_of, ops_of_chunks}
-use Rattle.op_model.specs.Running.{used, label_in, entry_in, uses_of_all, labelled, apply_all, Run, run, before}
-use Rattle.op_laws.specs.Words.{is_known, IsPlaceKnown, place_in, IsReady}
-use Rattle.op_laws.specs.Own.{HasOwn, EntryHasOwn}
+use Rattle.op_model.specs.Noting.{Chunk, range, top_range, place_of_items, ops_of, ops_of_chunks}
+use Rattle.op_model.specs.Running.{with_name, used, label_in, entry_in, uses_of_all, labelled, apply_all, Run, run, before}
+use Rattle.op_laws.specs.Words.{is_known, IsPlaceKnown, place_in, IsReady, with_entry}
+use Rattle.op_laws.specs.Own.{HasOwn, EntryHasOwn, OpHasOwn}
 use Rattle.op_laws.specs.Told.{AreTold, conflict_told}
+use Rattle.op_laws.specs.Exchanged.{Exchange, exchanged, exchanged_op, IsOneToOne, Divides}
 use Rattle.op_laws.specs.Sound.{IsSoundName, IsSoundPlace, IsSound}
 
 -- The items of a document, divided into chunks in any way: the operations of these, run one after another, come to the state of
@@ -44,6 +46,13 @@ NamesAreToldApart = (names : List Name) (a b : Name) → length names ≤ 2 ^ 64
 abbrev pub EntriesAreToldApart : Type 0
 EntriesAreToldApart = (names : List Name) (e f : Entry) → length names ≤ 2 ^ 64 → EntryHasOwn names e → EntryHasOwn names f → entry_in names e ≡ entry_in names f → e ≡ f
 
+-- Adding to types or entries comes to the same before labels are put in place of names, and after.
+abbrev pub AddingIsAlike : Type 0
+AddingIsAlike =
+    (names : List Name) → length names ≤ 2 ^ 64 →
+    ((t : Name) (ts : List Name) → HasOwn names t → AllByRecursion (HasOwn names) ts → type_told (label_in names t) (each (label_in names) ts) ≡ each (label_in names) (with_name ts t))
+    × ((e : Entry) (es : List Entry) → EntryHasOwn names e → AllByRecursion (EntryHasOwn names) es → told (entry_in names e) (each (entry_in names) es) ≡ each (entry_in names) (with_entry e es))
+
 -- The node map has what the operations tell, and nothing else.
 abbrev pub NodeMapsAreTold : Type 0
 NodeMapsAreTold = (os : List Op) → AreTold (used [] (uses_of_all os)) os (run os before).state.graphs
@@ -57,3 +66,17 @@ abbrev pub OperationsAreSound : Type 0
 OperationsAreSound =
     (number : ℕ) (items : List Tree) (graph : Name) (subject property : Option Name) (reversed : Bool)
     → IsSoundName graph → IsSoundPlace (place_of_items subject property reversed) → AllByRecursion IsSound (ops_of number (range items graph subject property reversed))
+
+-- Once labels are numbered by them, operations of this form have names and entries that are told apart.
+abbrev pub SoundNamesHaveOwnLabels : Type 0
+SoundNamesHaveOwnLabels = (os : List Op) → AllByRecursion IsSound os → AllByRecursion (OpHasOwn (used [] (uses_of_all os))) os
+
+-- It makes no difference how fresh names are chosen, if different nodes have different ones.
+abbrev pub FreshNamesCanBeExchanged : Type 0
+FreshNamesCanBeExchanged =
+    (other : Exchange) (os : List Op) → IsOneToOne other (uses_of_all os)
+    → run (each (exchanged_op other) os) before ≡ record { names = each (exchanged other) (run os before).names; state = (run os before).state }
+
+-- A document divided into chunks of any kind: their operations come to the state of generation after the whole document.
+abbrev pub DivisionsAreGeneration : Type 0
+DivisionsAreGeneration = (chunks : List Chunk) (items : List Tree) → Divides chunks items → (run (ops_of_chunks 0 chunks) before).state ≡ walked items

@@ -2,4 +2,5 @@ pub mod Words
 pub mod Own
 pub mod Told
 pub mod Sound
+pub mod Exchanged
 pub mod Laws

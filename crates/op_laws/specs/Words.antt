@@ -1,8 +1,9 @@
 -- Words of the laws of operations.
-use Rattle.std.specs.Prelude.{ℕ, ◌≡◌, ◌≤◌, List, Bool, true, false, ⊤}
+use Rattle.std.specs.Prelude.{ℕ, ◌≡◌, ◌≤◌, List, [], ◌∷◌, ◌++◌, Bool, true, false, if◌then◌else◌, ⊤}
 use Rattle.std.specs.List.{list_any}
 use Rattle.node_model.specs.Walk.{To, nowhere, under, in_list, reverse}
 use Rattle.op_model.specs.Names.{Name, iri, fresh, same_name}
+use Rattle.op_model.specs.Ops.{Entry, same_entry}
 use Rattle.op_model.specs.Running.{label_in, labels_of, Run}
 
 -- It is known what the name is called: it has a label among these, or needs none.
@@ -28,3 +29,7 @@ place_in names (reverse n p) = reverse (label_in names n) (label_in names p)
 pub record IsReady (number : ℕ) (r : Run) : Type 0 where
   pub labels : r.state.labels ≡ labels_of r.names
   pub unused : (chunk k : ℕ) → number ≤ chunk → list_any (same_name (fresh chunk k)) r.names ≡ false
+
+-- The entries of a property, with this one at their end, unless it is the same as one of them.
+abbrev pub with_entry : Entry → List Entry → List Entry
+with_entry e es = if list_any (same_entry e) es then es else (es ++ e ∷ [])

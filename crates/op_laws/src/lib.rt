@@ -4,7 +4,7 @@
 //! There is no code here. Each function does nothing, and its contract is one law, which `specs/Laws.antt` states.
 #![tactic(auto)]
 
-ghost use Rattle.op_laws.specs.Laws.{ARangeRunsAnywhere, EntriesAreToldApart, FirstUsesAreEnough, LabelsCanBeNumberedFirst, NamesAreToldApart, NodeMapsAreTold, OperationsAreGeneration, OperationsAreSound, TheFirstConflictIsTold};
+ghost use Rattle.op_laws.specs.Laws.{ARangeRunsAnywhere, AddingIsAlike, DivisionsAreGeneration, EntriesAreToldApart, FirstUsesAreEnough, FreshNamesCanBeExchanged, LabelsCanBeNumberedFirst, NamesAreToldApart, NodeMapsAreTold, OperationsAreGeneration, OperationsAreSound, SoundNamesHaveOwnLabels, TheFirstConflictIsTold};
 
 /// The operations of a document's chunks, run one after another, come to what node map generation comes to (JSON-LD 1.1 API, section
 /// 7.2): the same node map, the same labels, as many of them, and the same first conflict of indexes. This holds of any list of trees and
@@ -18,6 +18,18 @@ pub fn operations_are_generation()
 /// chunk with this number or a later one has run. Then the next chunk can follow.
 pub fn a_range_runs_anywhere()
     ensures { ARangeRunsAnywhere }
+{}
+
+/// It makes no difference what nodes without an id are called in operations, as long as different ones are called differently: with other
+/// fresh names the operations come to the same state, and to the same names in the same order, but for the exchange.
+pub fn fresh_names_can_be_exchanged()
+    ensures { FreshNamesCanBeExchanged }
+{}
+
+/// A document may be divided in any way into chunks, ranges within it and the steps between these, whose operations, one after another,
+/// are those of the whole document but for the names of nodes without an id. Then they come to what generation comes to.
+pub fn divisions_are_generation()
+    ensures { DivisionsAreGeneration }
 {}
 
 /// Labels can be numbered before any operation is applied (JSON-LD 1.1 API, section 7.4). The names that operations use, each where it is
@@ -45,6 +57,12 @@ pub fn entries_are_told_apart()
     ensures { EntriesAreToldApart }
 {}
 
+/// A type is added to types, and an entry to entries, in the same way by names as by labels, where these are told apart: an equal type,
+/// value or reference is added once, and a list in any case. So labels can be put in place of names once all is added.
+pub fn adding_is_alike()
+    ensures { AddingIsAlike }
+{}
+
 /// The node map has what the operations tell, and nothing else (JSON-LD 1.1 API, section 7.2). Beside the default graph, the graphs are
 /// those that an operation has. The nodes of a graph are those that an operation has there; and each is what the operations that have
 /// this node make of it, one after another. So operations that have no node in common may be told apart.
@@ -66,4 +84,10 @@ pub fn the_first_conflict_is_told()
 /// the name of the default graph is such a name, and there is no subject.
 pub fn operations_are_sound()
     ensures { OperationsAreSound }
+{}
+
+/// In operations of this form every name is told apart by its label, and every entry by what it becomes, once labels are numbered by the
+/// uses of these operations. So `names_are_told_apart`, `entries_are_told_apart` and `adding_is_alike` speak of all that is in them.
+pub fn sound_names_have_own_labels()
+    ensures { SoundNamesHaveOwnLabels }
 {}

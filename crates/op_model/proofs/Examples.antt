@@ -8,8 +8,8 @@ use Rattle.node_model.specs.Maps.{with_at}
 use Rattle.node_model.specs.NodeMap.{Node, list_object}
 use Rattle.node_model.specs.Generating.{walked}
 use Rattle.op_model.specs.Names.{Name, iri, source, fresh}
-use Rattle.op_model.specs.Ops.{Op, value, reference, list, no_entries, entry, use_label, ensure_graph, ensure_node, ensure_property, add_entry, append_list, add_type, set_index}
-use Rattle.op_model.specs.Noting.{range, top_range, spine, ops_of, ops_of_chunks}
+use Rattle.op_model.specs.Ops.{Op, value, reference, list, no_entries, entry, same_entry, use_label, ensure_graph, ensure_node, ensure_property, add_entry, append_list, add_type, set_index}
+use Rattle.op_model.specs.Noting.{range, top_range, spine, is_placed, ops_of, ops_of_chunks}
 use Rattle.op_model.specs.Running.{with_name, used, label_in, uses, run, before}
 
 abbrev map : Pairs → Tree
@@ -132,3 +132,19 @@ lists_are_kept : (run entries_twice before).state.graphs
     ≡ (codes "@default", (a, record { types = []; index = None; properties = (p, v ∷ list_object [] ∷ list_object [] ∷ []) ∷ [] }) ∷ []) ∷ []
 unfolding with_name with_at added
 lists_are_kept = refl
+
+an_equal_value_is_the_same : same_entry (value v) (value v) ≡ true
+an_equal_value_is_the_same = refl
+
+an_equal_list_is_another : same_entry (list no_entries) (list no_entries) ≡ false
+an_equal_list_is_another = refl
+
+-- Where a range may stand.
+a_subject_wants_a_property : is_placed (range [] default (Some (iri a)) None false) ≡ false
+a_subject_wants_a_property = refl
+
+nothing_is_reversed_alone : is_placed (range [] default None None true) ≡ false
+nothing_is_reversed_alone = refl
+
+the_top_is_placed : is_placed (top_range one) ≡ true
+the_top_is_placed = refl

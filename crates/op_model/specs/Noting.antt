@@ -1,6 +1,6 @@
 -- The operations of a chunk of a document: node map generation's traversal (JSON-LD 1.1 API, section 7.2), with steps that note
 -- operations. What is noted depends on the chunk and its number alone.
-use Rattle.std.specs.Prelude.{ℕ, ◌+◌, List, [], ◌∷◌, ◌++◌, Bool, true, false, if◌then◌else◌, Option, Some, None}
+use Rattle.std.specs.Prelude.{ℕ, ◌+◌, List, [], ◌∷◌, ◌++◌, Bool, true, false, not, if◌then◌else◌, Option, Some, None}
 use Rattle.ld_model.specs.Tree.{Tree, array, trees_of}
 use Rattle.ld_model.specs.Label.{is_blank}
 use Rattle.ld_model.specs.Keys.{default_graph}
@@ -49,6 +49,13 @@ abbrev pub place_of_items : Option Name → Option Name → Bool → To Name
 place_of_items (Some n) (Some p) true = reverse n p
 place_of_items (Some n) (Some p) false = under n p
 place_of_items _ _ _ = nowhere
+
+-- A range has a subject exactly where it has a property, and only then may it be a reverse property's.
+abbrev pub is_placed : Chunk → Bool
+is_placed (range items graph (Some n) (Some p) reversed) = true
+is_placed (range items graph None None reversed) = not reversed
+is_placed (range items graph _ _ reversed) = false
+is_placed (spine os) = true
 
 -- Items of the document's own array.
 abbrev pub top_range : List Tree → Chunk

@@ -1,7 +1,7 @@
 -- Operations: what a step of node map generation does to the node map (JSON-LD 1.1 API, section 7.2), with names in place of labels.
-use Rattle.std.specs.Prelude.{ℕ, List, [], ◌∷◌}
-use Rattle.ld_model.specs.Tree.{Tree}
-use Rattle.op_model.specs.Names.{Name}
+use Rattle.std.specs.Prelude.{ℕ, List, [], ◌∷◌, Bool, false}
+use Rattle.ld_model.specs.Tree.{Tree, same_tree}
+use Rattle.op_model.specs.Names.{Name, same_name}
 
 -- What stands under a property: a value object, a reference to a node, or a list of entries.
 mutual
@@ -21,6 +21,12 @@ entries_of (e ∷ es) = entry e (entries_of es)
 abbrev pub entry_list : Entries → List Entry
 entry_list no_entries = []
 entry_list (entry e es) = e ∷ entry_list es
+
+-- An equal value, or a reference to the same node. A list is the same as nothing, since each list is kept.
+abbrev pub same_entry : Entry → Entry → Bool
+same_entry (value a) (value b) = same_tree a b
+same_entry (reference a) (reference b) = same_name a b
+same_entry _ _ = false
 
 pub data Op : Type 0 where
   -- a label of the document is needed: that of a type, or of a reverse property
