@@ -1,5 +1,5 @@
 -- What a log comes to once something further was told.
-use Rattle.std.proofs.Common.{◌≡◌, ℕ, List, [], ◌∷◌, ◌++◌, append_assoc, append-nil, cond, ◌||◌, ◌&&◌, Bool, true, false, Ordering, Less, Equal, Greater, refl, sym, ap, ◌∙◌}
+use Rattle.std.proofs.Common.{◌≡◌, ℕ, List, [], ◌∷◌, ◌++◌, append_assoc, append-nil, cond, ◌||◌, Bool, true, false, Ordering, Less, Equal, Greater, refl, sym, ap, ◌∙◌}
 use Rattle.std.specs.Prelude.{map, ⊤}
 use Rattle.std.specs.Ordering.{is_lt}
 use Rattle.std.specs.Str.{bytes_eq}
@@ -12,7 +12,7 @@ use Rattle.ld_model.specs.NodeMap.{added}
 use Rattle.ld_model.proofs.Truths.{both}
 use Rattle.node_model.specs.Keys.{type_key}
 use Rattle.node_model.specs.AsTrees.{types_put}
-use Rattle.node_model.specs.Maps.{MapOf, at, with_at}
+use Rattle.node_model.specs.Maps.{MapOf, with_at}
 use Rattle.node_model.specs.NodeMap.{told, type_told, entries_in, entries_or_none, with_entries}
 use Rattle.node_ops.specs.Log.{all_told, types_told, properties_told}
 use Rattle.node_ops.specs.declared.node.Told.{Told}

@@ -1,11 +1,11 @@
 -- The order of trees is a total one, and ties equal trees alone. Each tree is written out as a list of numbers, of which no one begins
 -- another one.
-use Rattle.std.proofs.Common.{◌≡◌, ◌<◌, ◌<ℤ◌, ℕ, ℤ, pos, negsuc, List, [], ◌∷◌, Bool, true, false, ◌&&◌, cond, refl, sym, ap, ap₂, ◌∙◌, subst, arith}
+use Rattle.std.proofs.Common.{◌≡◌, ◌<◌, ◌<ℤ◌, ℕ, ℤ, pos, negsuc, List, [], ◌∷◌, Bool, true, false, ◌&&◌, refl, sym, ap, ap₂, ◌∙◌, subst, arith}
 use Rattle.std.specs.Bool.{one_answer}
-use Rattle.std.specs.Ordering.{MatchOrdering, nat_cmp, int_cmp, bool_cmp, int_eq, is_eq, ordering_then, eq_by_cmp, as_partial_cmp}
+use Rattle.std.specs.Ordering.{MatchOrdering, nat_cmp, int_cmp, bool_cmp, int_eq, is_eq, ordering_then, as_partial_cmp}
 use Rattle.std.specs.declared.cmp.Ordering.{Ordering}
 use Rattle.std.specs.declared.cmp.Ordering.TheVariants.{Less, Equal, Greater}
-use Rattle.std.specs.Cmp.{IsTotalOrder, IsEquivalence, IsPartialOrder, po, int_cmp_is, tied_then}
+use Rattle.std.specs.Cmp.{IsTotalOrder, IsEquivalence, IsPartialOrder, po, int_cmp_is, tied_then, Equal-is}
 use Rattle.std.specs.Cmp.Lexicographic.{slice_cmp}
 use Rattle.std.proofs.Math.Bool.{beq}
 use Rattle.std.proofs.lemmas.Int.{ints}
@@ -15,9 +15,6 @@ use Rattle.std.proofs.lemmas.Map.Lookups.{exact_signed}
 use Rattle.std.proofs.lemmas.Map.Text.{is_eq-slice_cmp}
 use Rattle.ld_model.specs.Tree.{Tree, Trees, Members, null, truth, whole, one_one, text, array, object, no_trees, tree, no_members, member, byte_order, same_tree, same_trees, same_members}
 use Rattle.node_ops.specs.TreeOrder.{tree_order, trees_order, members_order}
-
-numbers : List ℤ → List ℤ → Ordering
-numbers = slice_cmp int_cmp
 
 abbrev text_out : List ℕ → List ℤ → List ℤ
 text_out [] r = negsuc 0 ∷ r
@@ -125,9 +122,6 @@ mutual
       ∙ then-assoc (byte_order k l) (tree_order a b) (ordering_then (members_order xs ys) (slice_cmp int_cmp r s))
       ∙ then-assoc (ordering_then (byte_order k l) (tree_order a b)) (members_order xs ys) (slice_cmp int_cmp r s)
 
-out : Tree → List ℤ
-out t = tree_out t []
-
 is_order_of_out : (a b : Tree) → slice_cmp int_cmp (tree_out a []) (tree_out b []) ≡ tree_order a b
 is_order_of_out a b = out-order a b [] [] ∙ then-Equal (tree_order a b)
 
@@ -143,12 +137,7 @@ bits-tied false false = refl
 
 whole-tied : (a b : ℤ) → is_eq (int_cmp a b) ≡ int_eq a b
 whole-tied a b =
-    one_answer {P = a ≡ b} (is_eq (int_cmp a b)) (int_eq a b) ((λ is. exact_signed a b (equal (int_cmp a b) is)), (λ same. subst (λ c. is_eq (int_cmp a c) ≡ true) same (ap is_eq (tied_itself int_cmp_total a)))) (Decides-int_eq a b)
-  where
-    equal : (o : Ordering) → is_eq o ≡ true → o ≡ Equal
-    equal Less is = absurd (cc)
-    equal Equal is = refl
-    equal Greater is = absurd (cc)
+    one_answer {P = a ≡ b} (is_eq (int_cmp a b)) (int_eq a b) ((λ is. exact_signed a b ((Equal-is (int_cmp a b)).0 is)), (λ same. subst (λ c. is_eq (int_cmp a c) ≡ true) same (ap is_eq (tied_itself int_cmp_total a)))) (Decides-int_eq a b)
 
 mutual
   pub trees-tied : (a b : Tree) → is_eq (tree_order a b) ≡ same_tree a b

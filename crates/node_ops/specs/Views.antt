@@ -1,5 +1,5 @@
 -- What the maps of the code stand for.
-use Rattle.std.specs.Prelude.{ℕ, List, map, Option, Some, None, Result, Ok, Err, ◌≡◌, ⊤}
+use Rattle.std.specs.Prelude.{ℕ, List, map, Option, Some, None, Result, Err, ◌≡◌, ⊤}
 use Rattle.std.specs.BTreeMap.{BTreeMap}
 use Rattle.node_model.specs.Labels.{Labels}
 use Rattle.node_model.specs.NodeMap.{Graph, Graphs, Conflict}

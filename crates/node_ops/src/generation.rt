@@ -101,7 +101,7 @@ fn finished(alloc: Global, nodes: Nodes) -> Result<(NodeMap, u64), MapStop>
     if let Some(conflict) = conflict {
         return Err(MapStop::Conflict(conflict));
     }
-    let issued = labels.issued();
+    let issued = labels.into_count();
     let graphs = graphs_of(alloc, graphs)?;
     Ok((NodeMap { graphs }, issued))
 }

@@ -27,9 +27,9 @@ impl Labels {
         }
     }
 
-    /// How many labels were issued.
-    pub(crate) fn issued(&self) -> u64
-        ensures { result ≡ self.now.issued }
+    /// How many labels were issued. What the labels of the document were given goes back.
+    pub(crate) fn into_count(self) -> u64
+        ensures { result ≡ self.issued }
     {
         self.issued
     }

@@ -2,7 +2,6 @@ use Rattle.std.proofs.Common.{◌≡◌, cond, Bool, true, false, ◌||◌, refl
 use Rattle.std.specs.BTreeSet.{contains}
 use Rattle.std.specs.BTreeMap.{is_at}
 use Rattle.ld_model.specs.Tree.{same_tree}
-use Rattle.ld_tree.specs.View.{view}
 use Rattle.node_ops.specs.TreeOrder.{tree_order}
 use Rattle.node_ops.specs.TotalOrder.{trees-tied}
 use Rattle.node_ops.proofs.repeats.note.Goals as goal

@@ -1,4 +1,4 @@
-use Rattle.std.proofs.Common.{◌≡◌, ℕ, List, [], ◌∷◌, sym, ap, ◌∙◌}
+use Rattle.std.proofs.Common.{ℕ, List, [], ◌∷◌, sym, ap, ◌∙◌}
 use Rattle.node_model.specs.NodeMap.{Node}
 use Rattle.node_ops.specs.Log.{node_view, types_told, properties_told, change_of}
 use Rattle.node_ops.proofs.Logs.{types_told-append}
