@@ -19,3 +19,9 @@ pub mod Issued
 pub mod Determined
 pub mod RenamedWalk
 pub mod Renaming
+pub mod SameContents
+pub mod Restated
+pub mod RestatedNodes
+pub mod SaidAgain
+pub mod GraphsAgain
+pub mod Again

@@ -4,7 +4,7 @@
 //! `proofs/Alike.antt` serves whoever walks a document with other steps: steps that answer alike make walks that end alike.
 #![tactic(auto)]
 
-ghost use Rattle.node_laws.specs.Laws.{BlankNodesHaveIssuedLabels, ConflictsAreThoseStated, LabelsAreIssuedInOrder, NodeMapsAreAsStated, NodeMapsHaveTheDueForm, OutcomeIsDetermined, PlainDocumentsAreACase, RenamingLabelsChangesNothing, TheFirstConflictStays};
+ghost use Rattle.node_laws.specs.Laws.{BlankNodesHaveIssuedLabels, ConflictsAreThoseStated, FlatteningAgainChangesNothing, LabelsAreIssuedInOrder, NodeMapsAreAsStated, NodeMapsHaveTheDueForm, OutcomeIsDetermined, PlainDocumentsAreACase, RenamingLabelsChangesNothing, TheFirstConflictStays};
 
 /// The node map of any list of trees, where there is no conflict of indexes, has the due form (JSON-LD 1.1 API, section 7.2): the
 /// default graph is there, each graph is a map from ids to nodes, and each node a map with its id, perhaps an index and types, and for
@@ -70,4 +70,12 @@ pub fn renaming_labels_changes_nothing()
 /// laws of `flatten_laws` on plain documents hold of generation as it is defined for every document.
 pub fn plain_documents_are_a_case()
     ensures { PlainDocumentsAreACase }
+{}
+
+/// A document that is flattened stays as it is when it is flattened again (JSON-LD 1.1 API, sections 7.1 and 7.2), if no label was issued
+/// for it, so that no node of it is blank. The outcome then has no conflict of indexes either.
+///
+/// With blank nodes that doesn't hold: labels are issued anew, in the order of the outcome, where `_:b10` comes before `_:b2`.
+pub fn flattening_again_changes_nothing()
+    ensures { FlatteningAgainChangesNothing }
 {}
