@@ -1,3 +1,4 @@
+mod Examples
 pub mod Likeness
 pub mod Alike
 pub mod Idle
@@ -25,3 +26,4 @@ pub mod RestatedNodes
 pub mod SaidAgain
 pub mod GraphsAgain
 pub mod Again
+pub mod FlattenedAgain

@@ -153,7 +153,7 @@ module _ (h k : List ℕ) where
       by_test false = refl
 
   -- Two walks that say the same of it, and gather the same list.
-  record Alike (w v : At Stating Tree) : Type 0 where
+  record SaysSame (w v : At Stating Tree) : Type 0 where
     said : of_this w.state.stated ≡ of_this v.state.stated
     items : w.items ≡ v.items
 
@@ -165,50 +165,50 @@ module _ (h k : List ℕ) where
   abbrev referred : List ℕ → To (List ℕ) → At Stating Tree → List ℕ × Labels → At Stating Tree
   referred g to w name = node_into stating g to name.0 (record { state = record { labels = name.1; stated = w.state.stated ++ of_node g name.0 it_is ∷ [] }; items = w.items })
 
-  reference_alike : (g x : List ℕ) (to : To (List ℕ)) (w : At Stating Tree) → takes_values to ≡ true → IsOther x → Alike (walk stating g to (reference x) w) (value_into stating g to (reference x) w)
-  reference_alike g x nowhere w takes other = absurd (cc)
-  reference_alike g x (reverse n q) w takes other = absurd (cc)
-  reference_alike g x (under n q) w takes other =
-      subst (λ name. Alike (referred g (under n q) w name) (value_into stating g (under n q) (reference x) w)) (sym (named_other x w.state.labels other))
+  reference_says_same : (g x : List ℕ) (to : To (List ℕ)) (w : At Stating Tree) → takes_values to ≡ true → IsOther x → SaysSame (walk stating g to (reference x) w) (value_into stating g to (reference x) w)
+  reference_says_same g x nowhere w takes other = absurd (cc)
+  reference_says_same g x (reverse n q) w takes other = absurd (cc)
+  reference_says_same g x (under n q) w takes other =
+      subst (λ name. SaysSame (referred g (under n q) w name) (value_into stating g (under n q) (reference x) w)) (sym (named_other x w.state.labels other))
       (record { said = entry_added g n q (reference x) (w.state.stated ++ of_node g x it_is ∷ []) w.state.stated (node_made g x w.state.stated); items = refl })
-  reference_alike g x in_list w takes other =
-      subst (λ name. Alike (referred g in_list w name) (value_into stating g in_list (reference x) w)) (sym (named_other x w.state.labels other)) (record { said = node_made g x w.state.stated; items = refl })
+  reference_says_same g x in_list w takes other =
+      subst (λ name. SaysSame (referred g in_list w name) (value_into stating g in_list (reference x) w)) (sym (named_other x w.state.labels other)) (record { said = node_made g x w.state.stated; items = refl })
 
-  list_alike : (g : List ℕ) (es : Trees) (to : To (List ℕ)) (w inner : At Stating Tree) → takes_values to ≡ true → Alike inner (record { state = w.state; items = tree_list es })
-      → Alike (list_held stating g to w inner) (value_into stating g to (object (member list_key (array es) no_members)) w)
-  list_alike g es nowhere w inner takes is = absurd (cc)
-  list_alike g es (reverse n q) w inner takes is = absurd (cc)
-  list_alike g es (under n q) w inner takes is = record {
+  list_says_same : (g : List ℕ) (es : Trees) (to : To (List ℕ)) (w inner : At Stating Tree) → takes_values to ≡ true → SaysSame inner (record { state = w.state; items = tree_list es })
+      → SaysSame (list_held stating g to w inner) (value_into stating g to (object (member list_key (array es) no_members)) w)
+  list_says_same g es nowhere w inner takes is = absurd (cc)
+  list_says_same g es (reverse n q) w inner takes is = absurd (cc)
+  list_says_same g es (under n q) w inner takes is = record {
     said =
         ap (λ l. of_this (inner.state.stated ++ of_node g n (an_entry q (list_object l)) ∷ [])) is.items
         ∙ ap (λ ts. of_this (inner.state.stated ++ of_node g n (an_entry q (object (member list_key (array ts) no_members))) ∷ [])) (trees_back es)
         ∙ entry_added g n q (object (member list_key (array es) no_members)) inner.state.stated w.state.stated is.said;
     items = refl;
   }
-  list_alike g es in_list w inner takes is = record {
+  list_says_same g es in_list w inner takes is = record {
     said = is.said;
     items = ap (λ l. w.items ++ list_object l ∷ []) is.items ∙ ap (λ ts. w.items ++ object (member list_key (array ts) no_members) ∷ []) (trees_back es);
   }
 
-  same_walks : (v u : At Stating Tree) → v ≡ u → Alike v u
+  same_walks : (v u : At Stating Tree) → v ≡ u → SaysSame v u
   same_walks v u is = record { said = ap (λ (w : At Stating Tree). of_this w.state.stated) is; items = ap (λ (w : At Stating Tree). w.items) is }
 
-  simple_alike : (g : List ℕ) (ms : Members) (to : To (List ℕ)) (w : At Stating Tree) → has_array ms ≡ false → is_entry (object ms) ≡ true → AllByRecursion IsOther (lone_names ms) → takes_values to ≡ true
-      → Alike (walk stating g to (object ms) w) (value_into stating g to (object ms) w)
-  simple_alike g ms to w none is others takes = by_kind (has_key value_key ms) refl
+  simple_says_same : (g : List ℕ) (ms : Members) (to : To (List ℕ)) (w : At Stating Tree) → has_array ms ≡ false → is_entry (object ms) ≡ true → AllByRecursion IsOther (lone_names ms) → takes_values to ≡ true
+      → SaysSame (walk stating g to (object ms) w) (value_into stating g to (object ms) w)
+  simple_says_same g ms to w none is others takes = by_kind (has_key value_key ms) refl
     where
-      by_kind : (b : Bool) → has_key value_key ms ≡ b → Alike (walk stating g to (object ms) w) (value_into stating g to (object ms) w)
+      by_kind : (b : Bool) → has_key value_key ms ≡ b → SaysSame (walk stating g to (object ms) w) (value_into stating g to (object ms) w)
       by_kind true is_value = same_walks _ _ (value_walked g ms to w is_value)
       by_kind false other =
           let lone = lone_reference ms none (sym (ap (λ b. b || is_lone ms) other) ∙ is) in
-          subst (λ ms. Alike (walk stating g to (object ms) w) (value_into stating g to (object ms) w)) (sym lone.1)
-          (reference_alike g lone.0 to w takes (subst (λ ms. AllByRecursion IsOther (lone_names ms)) lone.1 others).0)
+          subst (λ ms. SaysSame (walk stating g to (object ms) w) (value_into stating g to (object ms) w)) (sym lone.1)
+          (reference_says_same g lone.0 to w takes (subst (λ ms. AllByRecursion IsOther (lone_names ms)) lone.1 others).0)
 
   -- A single member that is an array.
-  array_alike : (g key : List ℕ) (es : Trees) (to : To (List ℕ)) (w : At Stating Tree) → is_entry (object (member key (array es) no_members)) ≡ true → AllByRecursion IsOther (lone_names (member key (array es) no_members)) → takes_values to ≡ true
-      → (are_entries es ≡ true → AllByRecursion IsOther (entries_names es) → Alike (walk_all stating g in_list es (record { state = w.state; items = [] })) (record { state = w.state; items = tree_list es }))
-      → Alike (walk stating g to (object (member key (array es) no_members)) w) (value_into stating g to (object (member key (array es) no_members)) w)
-  array_alike g key es to w is others takes inner = by_kind (has_key value_key (member key (array es) no_members)) refl
+  array_says_same : (g key : List ℕ) (es : Trees) (to : To (List ℕ)) (w : At Stating Tree) → is_entry (object (member key (array es) no_members)) ≡ true → AllByRecursion IsOther (lone_names (member key (array es) no_members)) → takes_values to ≡ true
+      → (are_entries es ≡ true → AllByRecursion IsOther (entries_names es) → SaysSame (walk_all stating g in_list es (record { state = w.state; items = [] })) (record { state = w.state; items = tree_list es }))
+      → SaysSame (walk stating g to (object (member key (array es) no_members)) w) (value_into stating g to (object (member key (array es) no_members)) w)
+  array_says_same g key es to w is others takes inner = by_kind (has_key value_key (member key (array es) no_members)) refl
     where
       list_of : (b c : Bool) → ((b && false) || (c && are_entries es)) ≡ true → (c ≡ true) × (are_entries es ≡ true)
       list_of true true is = (refl, is)
@@ -216,14 +216,14 @@ module _ (h k : List ℕ) where
       list_of true false is = absurd (cc)
       list_of false false is = absurd (cc)
 
-      as_list : (x : List ℕ) → x ≡ list_key → AllByRecursion IsOther (lone_names (member x (array es) no_members)) → are_entries es ≡ true → Alike (walk stating g to (object (member x (array es) no_members)) w) (value_into stating g to (object (member x (array es) no_members)) w)
+      as_list : (x : List ℕ) → x ≡ list_key → AllByRecursion IsOther (lone_names (member x (array es) no_members)) → are_entries es ≡ true → SaysSame (walk stating g to (object (member x (array es) no_members)) w) (value_into stating g to (object (member x (array es) no_members)) w)
       as_list x key_is others entries =
-          subst (λ x. AllByRecursion IsOther (lone_names (member x (array es) no_members)) → Alike (walk stating g to (object (member x (array es) no_members)) w) (value_into stating g to (object (member x (array es) no_members)) w)) (sym key_is)
-          (λ others. subst (λ b. Alike (if b then list_held stating g to w (walk_all stating g in_list es (record { state = w.state; items = [] })) else w) (value_into stating g to (object (member list_key (array es) no_members)) w)) (sym takes)
-          (list_alike g es to w (walk_all stating g in_list es (record { state = w.state; items = [] })) takes (inner entries others)))
+          subst (λ x. AllByRecursion IsOther (lone_names (member x (array es) no_members)) → SaysSame (walk stating g to (object (member x (array es) no_members)) w) (value_into stating g to (object (member x (array es) no_members)) w)) (sym key_is)
+          (λ others. subst (λ b. SaysSame (if b then list_held stating g to w (walk_all stating g in_list es (record { state = w.state; items = [] })) else w) (value_into stating g to (object (member list_key (array es) no_members)) w)) (sym takes)
+          (list_says_same g es to w (walk_all stating g in_list es (record { state = w.state; items = [] })) takes (inner entries others)))
           others
 
-      by_kind : (b : Bool) → has_key value_key (member key (array es) no_members) ≡ b → Alike (walk stating g to (object (member key (array es) no_members)) w) (value_into stating g to (object (member key (array es) no_members)) w)
+      by_kind : (b : Bool) → has_key value_key (member key (array es) no_members) ≡ b → SaysSame (walk stating g to (object (member key (array es) no_members)) w) (value_into stating g to (object (member key (array es) no_members)) w)
       by_kind true is_value = same_walks _ _ (value_walked g (member key (array es) no_members) to w is_value)
       by_kind false other =
           let lone : is_lone (member key (array es) no_members) ≡ true = sym (ap (λ b. b || is_lone (member key (array es) no_members)) other) ∙ is in
@@ -252,34 +252,34 @@ module _ (h k : List ℕ) where
   none_if false = refl
 
   mutual
-    entry_alike : (g : List ℕ) (t : Tree) (to : To (List ℕ)) (w : At Stating Tree) → is_entry t ≡ true → AllByRecursion IsOther (entry_names t) → takes_values to ≡ true → Alike (walk stating g to t w) (value_into stating g to t w)
-    entry_alike g (object ms) to w is others takes = members_alike g ms to w is others takes
-    entry_alike g null to w is others takes = absurd (cc)
-    entry_alike g (truth b) to w is others takes = absurd (cc)
-    entry_alike g (whole n) to w is others takes = absurd (cc)
-    entry_alike g one_one to w is others takes = absurd (cc)
-    entry_alike g (text s) to w is others takes = absurd (cc)
-    entry_alike g (array ts) to w is others takes = absurd (cc)
+    entry_says_same : (g : List ℕ) (t : Tree) (to : To (List ℕ)) (w : At Stating Tree) → is_entry t ≡ true → AllByRecursion IsOther (entry_names t) → takes_values to ≡ true → SaysSame (walk stating g to t w) (value_into stating g to t w)
+    entry_says_same g (object ms) to w is others takes = members_says_same g ms to w is others takes
+    entry_says_same g null to w is others takes = absurd (cc)
+    entry_says_same g (truth b) to w is others takes = absurd (cc)
+    entry_says_same g (whole n) to w is others takes = absurd (cc)
+    entry_says_same g one_one to w is others takes = absurd (cc)
+    entry_says_same g (text s) to w is others takes = absurd (cc)
+    entry_says_same g (array ts) to w is others takes = absurd (cc)
 
-    members_alike : (g : List ℕ) (ms : Members) (to : To (List ℕ)) (w : At Stating Tree) → is_entry (object ms) ≡ true → AllByRecursion IsOther (lone_names ms) → takes_values to ≡ true → Alike (walk stating g to (object ms) w) (value_into stating g to (object ms) w)
-    members_alike g (member key (array es) no_members) to w is others takes =
-        array_alike g key es to w is others takes (λ entries names. all_alike g es (record { state = w.state; items = [] }) entries names)
-    members_alike g no_members to w is others takes = simple_alike g no_members to w refl is others takes
-    members_alike g (member key null no_members) to w is others takes = simple_alike g (member key null no_members) to w refl is others takes
-    members_alike g (member key (truth b) no_members) to w is others takes = simple_alike g (member key (truth b) no_members) to w refl is others takes
-    members_alike g (member key (whole n) no_members) to w is others takes = simple_alike g (member key (whole n) no_members) to w refl is others takes
-    members_alike g (member key one_one no_members) to w is others takes = simple_alike g (member key one_one no_members) to w refl is others takes
-    members_alike g (member key (text s) no_members) to w is others takes = simple_alike g (member key (text s) no_members) to w refl is others takes
-    members_alike g (member key (object os) no_members) to w is others takes = simple_alike g (member key (object os) no_members) to w refl is others takes
-    members_alike g (member key t (member l u ms)) to w is others takes = simple_alike g (member key t (member l u ms)) to w (several key t l u ms) is others takes
+    members_says_same : (g : List ℕ) (ms : Members) (to : To (List ℕ)) (w : At Stating Tree) → is_entry (object ms) ≡ true → AllByRecursion IsOther (lone_names ms) → takes_values to ≡ true → SaysSame (walk stating g to (object ms) w) (value_into stating g to (object ms) w)
+    members_says_same g (member key (array es) no_members) to w is others takes =
+        array_says_same g key es to w is others takes (λ entries names. all_says_same g es (record { state = w.state; items = [] }) entries names)
+    members_says_same g no_members to w is others takes = simple_says_same g no_members to w refl is others takes
+    members_says_same g (member key null no_members) to w is others takes = simple_says_same g (member key null no_members) to w refl is others takes
+    members_says_same g (member key (truth b) no_members) to w is others takes = simple_says_same g (member key (truth b) no_members) to w refl is others takes
+    members_says_same g (member key (whole n) no_members) to w is others takes = simple_says_same g (member key (whole n) no_members) to w refl is others takes
+    members_says_same g (member key one_one no_members) to w is others takes = simple_says_same g (member key one_one no_members) to w refl is others takes
+    members_says_same g (member key (text s) no_members) to w is others takes = simple_says_same g (member key (text s) no_members) to w refl is others takes
+    members_says_same g (member key (object os) no_members) to w is others takes = simple_says_same g (member key (object os) no_members) to w refl is others takes
+    members_says_same g (member key t (member l u ms)) to w is others takes = simple_says_same g (member key t (member l u ms)) to w (several key t l u ms) is others takes
 
-    all_alike : (g : List ℕ) (ts : Trees) (w : At Stating Tree) → are_entries ts ≡ true → AllByRecursion IsOther (entries_names ts) → Alike (walk_all stating g in_list ts w) (record { state = w.state; items = w.items ++ tree_list ts })
-    all_alike g no_trees w is others = record { said = refl; items = sym (append-nil w.items) }
-    all_alike g (tree t ts) w is others =
+    all_says_same : (g : List ℕ) (ts : Trees) (w : At Stating Tree) → are_entries ts ≡ true → AllByRecursion IsOther (entries_names ts) → SaysSame (walk_all stating g in_list ts w) (record { state = w.state; items = w.items ++ tree_list ts })
+    all_says_same g no_trees w is others = record { said = refl; items = sym (append-nil w.items) }
+    all_says_same g (tree t ts) w is others =
         let parts = both (is_entry t) (are_entries ts) is in
         let names = all_parts IsOther (entry_names t) (entries_names ts) others in
-        let first = entry_alike g t in_list w parts.0 names.0 refl in
-        let rest = all_alike g ts (walk stating g in_list t w) parts.1 names.1 in
+        let first = entry_says_same g t in_list w parts.0 names.0 refl in
+        let rest = all_says_same g ts (walk stating g in_list t w) parts.1 names.1 in
         record {
           said = rest.said ∙ first.said;
           items = rest.items ∙ ap (λ l. l ++ tree_list ts) first.items ∙ append_assoc w.items (t ∷ []) (tree_list ts);
@@ -291,7 +291,7 @@ module _ (h k : List ℕ) where
   entries_add g n q (tree t ts) w is others =
       let parts = both (is_entry t) (are_entries ts) is in
       let names = all_parts IsOther (entry_names t) (entries_names ts) others in
-      let first = entry_alike g t (under n q) w parts.0 names.0 refl in
+      let first = entry_says_same g t (under n q) w parts.0 names.0 refl in
       adds_if (is_this g n) w (walk stating g (under n q) t w) (walk_all stating g (under n q) ts (walk stating g (under n q) t w)) (an_entry q t ∷ []) (each (an_entry q) (tree_list ts))
       (record { said = first.said ∙ said_one g n (an_entry q t) w.state.stated refl })
       (entries_add g n q ts (walk stating g (under n q) t w) parts.1 names.1)
