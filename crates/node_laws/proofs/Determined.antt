@@ -17,7 +17,7 @@ use Rattle.node_laws.proofs.DueForm.{keyword_apart, node_maps_have_the_due_form}
 use Rattle.node_laws.proofs.Stated.{node_maps_are_as_stated}
 
 -- What is found at a key passes each test that all pass.
-found_passes : (test : List ℕ × Tree → Bool) (k : List ℕ) (t : Tree) (ms : Pairs) → list_all test ms ≡ true → member_at k ms ≡ Some t → test (k, t) ≡ true
+pub found_passes : (test : List ℕ × Tree → Bool) (k : List ℕ) (t : Tree) (ms : Pairs) → list_all test ms ≡ true → member_at k ms ≡ Some t → test (k, t) ≡ true
 found_passes test k t [] all is = absurd (cc)
 found_passes test k t (m ∷ ms) all is = by_test (bytes_eq k m.0) refl (found_passes test k t ms (both (test m) (list_all test ms) all).1)
   where
@@ -28,7 +28,7 @@ found_passes test k t (m ∷ ms) all is = by_test (bytes_eq k m.0) refl (found_p
         subst (λ (x : List ℕ × Tree). test x ≡ true) (λ i. (sym (bytes_eq-exact k m.0 same) i, e i)) (both (test m) (list_all test ms) all).0
     by_test false apart rest = rest (sym (at_later k m ms apart) ∙ is)
 
-found_is : (P : List ℕ × Tree → Type 0) (k : List ℕ) (t : Tree) (ms : Pairs) → AllByRecursion P ms → member_at k ms ≡ Some t → P (k, t)
+pub found_is : (P : List ℕ × Tree → Type 0) (k : List ℕ) (t : Tree) (ms : Pairs) → AllByRecursion P ms → member_at k ms ≡ Some t → P (k, t)
 found_is P k t [] all is = absurd (cc)
 found_is P k t (m ∷ ms) all is = by_test (bytes_eq k m.0) refl (found_is P k t ms all.1)
   where
@@ -87,10 +87,10 @@ module _ (id : List ℕ) where
   no_text : (k s : List ℕ) → bytes_eq k id_key ≡ false → bytes_eq k index_key ≡ false → is_node_entry id (k, text s) ≡ false
   no_text k s no_id no_index = ap (λ b. (b && bytes_eq s id) || bytes_eq k index_key) no_id ∙ no_index
 
-  data IsArray (t : Tree) : Type 0 where
+  pub data IsArray (t : Tree) : Type 0 where
     an_array : (ts : Trees) → t ≡ array ts → IsArray t
 
-  array_at : (p : List ℕ) (t : Tree) → is_keyword p ≡ false → is_node_entry id (p, t) ≡ true → IsArray t
+  pub array_at : (p : List ℕ) (t : Tree) → is_keyword p ≡ false → is_node_entry id (p, t) ≡ true → IsArray t
   array_at p (array ts) apart is = an_array ts refl
   array_at p (text s) apart is =
       absurd (let none = no_text p s (bytes_eq-sym p id_key ∙ keyword_apart id_key p refl apart) (bytes_eq-sym p index_key ∙ keyword_apart index_key p refl apart) in let no_way : false ≡ true = sym none ∙ is in cc)
@@ -113,7 +113,7 @@ module _ (id : List ℕ) where
   no_entry k one_one word no_id no_type no_index = refl
   no_entry k (object ms) word no_id no_type no_index = refl
 
-  nothing_there : (k : List ℕ) (ms : Pairs) → list_all (is_node_entry id) ms ≡ true → is_keyword k ≡ true → bytes_eq k id_key ≡ false → bytes_eq k type_key ≡ false → bytes_eq k index_key ≡ false → member_at k ms ≡ None
+  pub nothing_there : (k : List ℕ) (ms : Pairs) → list_all (is_node_entry id) ms ≡ true → is_keyword k ≡ true → bytes_eq k id_key ≡ false → bytes_eq k type_key ≡ false → bytes_eq k index_key ≡ false → member_at k ms ≡ None
   nothing_there k ms all word no_id no_type no_index = by_found (member_at k ms) refl
     where
       by_found : (o : Option Tree) → member_at k ms ≡ o → o ≡ None
@@ -132,7 +132,7 @@ module _ (id : List ℕ) where
         same_arrays t u (array_at p t apart (found_passes (is_node_entry id) p t ms ms_are t_is)) (array_at p u apart (found_passes (is_node_entry id) p u ns ns_are u_is))
         (sym (ap array_in t_is) ∙ ms_say.entries p apart ∙ sym (ns_say.entries p apart) ∙ ap array_in u_is))
 
-    at_each : (k : List ℕ) → member_at id_key ms ≡ member_at id_key ns → member_at k ms ≡ member_at k ns
+    pub at_each : (k : List ℕ) → member_at id_key ms ≡ member_at id_key ns → member_at k ms ≡ member_at k ns
     at_each k ids = by_id (bytes_eq k id_key) refl
       where
         by_word : (b : Bool) → is_keyword k ≡ b → bytes_eq k id_key ≡ false → bytes_eq k type_key ≡ false → bytes_eq k index_key ≡ false → member_at k ms ≡ member_at k ns

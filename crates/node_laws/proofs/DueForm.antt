@@ -19,7 +19,7 @@ use Rattle.node_laws.specs.Laws.{IsNodeInOrder, IsGraphInOrder, IsInForm, NodeMa
 use Rattle.node_laws.proofs.Maps.{keys_of-as_members, member_at-as_members}
 use Rattle.node_laws.proofs.Shape.{IsProperty, IsNode, IsGraph, IsMap, entries_are, walked_is}
 
-all_pass : {X : Type 0} (test : X → Bool) (xs : List X) → AllByRecursion (λ x. test x ≡ true) xs → list_all test xs ≡ true
+pub all_pass : {X : Type 0} (test : X → Bool) (xs : List X) → AllByRecursion (λ x. test x ≡ true) xs → list_all test xs ≡ true
 all_pass test [] all = refl
 all_pass test (x ∷ xs) all = rw (all.0, all_pass test xs all.1)
 
@@ -128,12 +128,8 @@ pub given : (o : Option Conflict) (s : State) (m : Generated) → outcome o s �
 given (Some c) s m is = absurd (cc)
 given None s m is = cc
 
+pub map_in_form : (graphs : Graphs) → IsMap graphs → IsInForm (graph_pairs graphs)
+map_in_form graphs map = record { form = map_is_due graphs map; ascend = map_in_order graphs map; each = graphs_are IsGraphInOrder graph_in_order graphs map.each }
+
 pub node_maps_have_the_due_form : NodeMapsHaveTheDueForm
-node_maps_have_the_due_form ts m is =
-    let map = walked_is ts in
-    subst (λ (m : Generated). IsInForm m.graphs) (given (walked ts).conflict (walked ts) m is)
-    (record {
-      form = map_is_due (walked ts).graphs map;
-      ascend = map_in_order (walked ts).graphs map;
-      each = graphs_are IsGraphInOrder graph_in_order (walked ts).graphs map.each;
-    })
+node_maps_have_the_due_form ts m is = subst (λ (m : Generated). IsInForm m.graphs) (given (walked ts).conflict (walked ts) m is) (map_in_form (walked ts).graphs (walked_is ts))

@@ -54,14 +54,14 @@ module _ (count : ℕ) where
       by_found (Some es) is = (all-at OfProperty p ps es all is).1
       by_found None is = tt
 
-  node_in_of : (id : List ℕ) (nodes : Graph) → AllByRecursion (λ e. IsIssued count e.0 × OfNode e.1) nodes → OfNode (node_in id nodes)
+  pub node_in_of : (id : List ℕ) (nodes : Graph) → AllByRecursion (λ e. IsIssued count e.0 × OfNode e.1) nodes → OfNode (node_in id nodes)
   node_in_of id nodes all = by_found (at id nodes) refl
     where
       by_found : (o : Option Node) → at id nodes ≡ o → OfNode (node_or_new o)
       by_found (Some n) is = (all-at (λ e. IsIssued count e.0 × OfNode e.1) id nodes n all is).1
       by_found None is = new_node_of
 
-  graph_in_of : (g : List ℕ) (graphs : Graphs) → OfGraphs graphs → AllByRecursion (λ e. IsIssued count e.0 × OfNode e.1) (graph_in g graphs)
+  pub graph_in_of : (g : List ℕ) (graphs : Graphs) → OfGraphs graphs → AllByRecursion (λ e. IsIssued count e.0 × OfNode e.1) (graph_in g graphs)
   graph_in_of g graphs all = by_found (at g graphs) refl
     where
       by_found : (o : Option Graph) → at g graphs ≡ o → AllByRecursion (λ e. IsIssued count e.0 × OfNode e.1) (graph_or_new o)
@@ -134,7 +134,7 @@ module _ (count : ℕ) where
       properties_put_of ps (put p.0 (array (trees_of p.1)) ms) properties.1 named.1
       (all-put OfMember p.0 (array (trees_of p.1)) ms (property_of p.0 p.1 properties.0.0 named.0.0 named.0.1) all)
 
-  members_of_node : (id : List ℕ) (n : Node) → IsNode n → OfNode n → AllByRecursion OfMember (node_members id n)
+  pub members_of_node : (id : List ℕ) (n : Node) → IsNode n → OfNode n → AllByRecursion OfMember (node_members id n)
   members_of_node id n node named = properties_put_of n.properties _ node.each named.properties (types_put_of n.types _ named.types (index_put_of n.index _ (tt, tt)))
 
   nodes_of : (nodes : Graph) → AllByRecursion (λ e. IsNode e.1) nodes → AllByRecursion (λ e. IsIssued count e.0 × OfNode e.1) nodes → AllByRecursion (λ m. AllByRecursion (IsIssued count) (node_names m)) (each node_pair nodes)
@@ -292,7 +292,7 @@ no_blank_default count blank = absurd (cc)
 none_given : Below empty.labels
 none_given s n is = absurd (cc)
 
-walked_issued : (ts : List Tree) → OfGraphs (walked ts).labels.issued (walked ts).graphs
+pub walked_issued : (ts : List Tree) → OfGraphs (walked ts).labels.issued (walked ts).graphs
 walked_issued ts =
     (all_beside issued_alike generating idle steps_issue default_graph tt nowhere nowhere (trees_of ts) empty (record { state = empty; items = [] }) (record { state = tt; items = [] }) (no_blank_default 0) tt
     (record { states = (none_given, ((no_blank_default 0, tt), tt)); gathered = tt; lasts = lasts_here issued_alike empty })).states.1

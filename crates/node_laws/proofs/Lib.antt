@@ -1,3 +1,4 @@
+mod Examples
 pub mod Likeness
 pub mod Alike
 pub mod Idle
@@ -19,3 +20,10 @@ pub mod Issued
 pub mod Determined
 pub mod RenamedWalk
 pub mod Renaming
+pub mod SameContents
+pub mod Restated
+pub mod RestatedNodes
+pub mod SaidAgain
+pub mod GraphsAgain
+pub mod Again
+pub mod FlattenedAgain

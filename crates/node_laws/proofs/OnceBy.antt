@@ -1,7 +1,7 @@
 -- Elements that are added one after another, each unless it repeats one that is there, are those that repeat no earlier one.
 use Rattle.std.proofs.Common.{◌≡◌, List, [], ◌∷◌, ◌++◌, Bool, true, false, cond, ◌&&◌, ◌||◌, not, if◌then◌else◌, refl, sym, ap, ◌∙◌, subst, append_assoc, append-nil}
-use Rattle.std.specs.Prelude.{filter}
-use Rattle.std.specs.List.{list_any}
+use Rattle.std.specs.Prelude.{⊤, filter}
+use Rattle.std.specs.List.{AllByRecursion, list_any}
 use Rattle.std.proofs.lemmas.List.Folds.{list_any-append}
 use Rattle.node_laws.specs.Stated.{once_by}
 
@@ -73,3 +73,47 @@ module _ {X : Type 0} (repeats : X → X → Bool) where
   pub all_added-append : (held xs ys : List X) → all_added held (xs ++ ys) ≡ all_added (all_added held xs) ys
   all_added-append held [] ys = refl
   all_added-append held (x ∷ xs) ys = all_added-append (added_by x held) xs ys
+
+  -- What repeats nothing earlier stays.
+  abbrev Apart : List X → Type 0
+  Apart [] = ⊤
+  Apart (x ∷ xs) = AllByRecursion (λ y. repeats y x ≡ false) xs × Apart xs
+
+  all_filtered : (P : X → Type 0) (test : X → Bool) (xs : List X) → AllByRecursion P xs → AllByRecursion P (filter test xs)
+  all_filtered P test [] all = tt
+  all_filtered P test (x ∷ xs) all = by_test (test x) (all_filtered P test xs all.1)
+    where
+      by_test : (b : Bool) → AllByRecursion P (filter test xs) → AllByRecursion P (cond b (x ∷ filter test xs) (filter test xs))
+      by_test true rest = (all.0, rest)
+      by_test false rest = rest
+
+  apart_filtered : (test : X → Bool) (xs : List X) → Apart xs → Apart (filter test xs)
+  apart_filtered test [] apart = tt
+  apart_filtered test (x ∷ xs) apart = by_test (test x) (apart_filtered test xs apart.1)
+    where
+      by_test : (b : Bool) → Apart (filter test xs) → Apart (cond b (x ∷ filter test xs) (filter test xs))
+      by_test true rest = (all_filtered (λ y. repeats y x ≡ false) test xs apart.0, rest)
+      by_test false rest = rest
+
+  others_apart : (x : X) (xs : List X) → AllByRecursion (λ y. repeats y x ≡ false) (filter (λ y. not (repeats y x)) xs)
+  others_apart x [] = tt
+  others_apart x (y ∷ xs) = by_test (repeats y x) refl (others_apart x xs)
+    where
+      by_test : (b : Bool) → repeats y x ≡ b → AllByRecursion (λ y. repeats y x ≡ false) (filter (λ y. not (repeats y x)) xs) → AllByRecursion (λ y. repeats y x ≡ false) (cond (not b) (y ∷ filter (λ y. not (repeats y x)) xs) (filter (λ y. not (repeats y x)) xs))
+      by_test true same rest = rest
+      by_test false other rest = (other, rest)
+
+  once_apart : (xs : List X) → Apart (once_by repeats xs)
+  once_apart [] = tt
+  once_apart (x ∷ xs) = (others_apart x (once_by repeats xs), apart_filtered (λ y. not (repeats y x)) (once_by repeats xs) (once_apart xs))
+
+  all_stay : (x : X) (xs : List X) → AllByRecursion (λ y. repeats y x ≡ false) xs → filter (λ y. not (repeats y x)) xs ≡ xs
+  all_stay x [] all = refl
+  all_stay x (y ∷ xs) all = ap (λ b. cond (not b) (y ∷ filter (λ y. not (repeats y x)) xs) (filter (λ y. not (repeats y x)) xs)) all.0 ∙ ap (λ l. y ∷ l) (all_stay x xs all.1)
+
+  apart_stays : (xs : List X) → Apart xs → once_by repeats xs ≡ xs
+  apart_stays [] apart = refl
+  apart_stays (x ∷ xs) apart = ap (λ l. x ∷ filter (λ y. not (repeats y x)) l) (apart_stays xs apart.1) ∙ ap (λ l. x ∷ l) (all_stay x xs apart.0)
+
+  pub once_again : (xs : List X) → once_by repeats (once_by repeats xs) ≡ once_by repeats xs
+  once_again xs = apart_stays (once_by repeats xs) (once_apart xs)

@@ -56,7 +56,7 @@ node_changed id p change n apart node after =
             ∙ sym (member_at-put_other q p (listed value) (node_members id n) other)
 
 -- A node that may be missing.
-node_at-shown : (id : List ℕ) (nodes : Graph) → plain.node_at id (shown nodes) ≡ node_members id (node_in id nodes)
+pub node_at-shown : (id : List ℕ) (nodes : Graph) → plain.node_at id (shown nodes) ≡ node_members id (node_in id nodes)
 node_at-shown id nodes = ap (plain.node_or_new id) (member_at-as_members node_tree id nodes) ∙ by_found (at id nodes)
   where
     by_found : (o : Option Node) → plain.node_or_new id (option_map (node_tree id) o) ≡ node_members id (node_or_new o)

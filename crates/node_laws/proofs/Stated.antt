@@ -28,11 +28,11 @@ use Rattle.node_laws.proofs.ReadOut.{node_tree, property_there, entries_there, t
 
 -- These graphs have what these statements say.
 pub record Holds (stated : List Statement) (graphs : Graphs) : Type 0 where
-  graph : (h : List ℕ) → is_some (at h graphs) ≡ (bytes_eq h default_graph || list_any (is_of_graph h) stated)
-  node : (h k : List ℕ) → at k (graph_in h graphs) ≡ told_of (said_of h k stated) None
+  pub graph : (h : List ℕ) → is_some (at h graphs) ≡ (bytes_eq h default_graph || list_any (is_of_graph h) stated)
+  pub node : (h k : List ℕ) → at k (graph_in h graphs) ≡ told_of (said_of h k stated) None
 
 -- One more statement.
-said_of-last : (h k : List ℕ) (stated : List Statement) (x : Statement) → said_of h k (stated ++ x ∷ []) ≡ said_of h k stated ++ said_by h k x
+pub said_of-last : (h k : List ℕ) (stated : List Statement) (x : Statement) → said_of h k (stated ++ x ∷ []) ≡ said_of h k stated ++ said_by h k x
 said_of-last h k [] x = append-nil (said_by h k x)
 said_of-last h k (y ∷ stated) x = ap (λ l. said_by h k y ++ l) (said_of-last h k stated x) ∙ sym (append_assoc (said_by h k y) (said_of h k stated) (said_by h k x))
 
@@ -181,13 +181,17 @@ with_conflict stated x o c one is =
     by_first [] = refl
     by_first (d ∷ cs) = refl
 
+-- A node is made of what is said of it.
+pub node_stated : (g id : List ℕ) (stated : List Statement) (graphs : Graphs) → Holds stated graphs → node_in id (graph_in g graphs) ≡ all_said (said_of g id stated) new_node
+node_stated g id stated graphs is = ap node_or_new (is.node g id) ∙ by_said (said_of g id stated)
+  where
+    by_said : (ds : List Said) → node_or_new (told_of ds None) ≡ all_said ds new_node
+    by_said [] = refl
+    by_said (d ∷ ds) = ap node_or_new (told_of-some ds (said_to d new_node))
+
 -- The index of a node is the first one that was said of it.
 index_stated : (g id : List ℕ) (stated : List Statement) (graphs : Graphs) → Holds stated graphs → (node_in id (graph_in g graphs)).index ≡ first (flat_map indexes_said (said_of g id stated))
-index_stated g id stated graphs is = ap (λ o. (node_or_new o).index) (is.node g id) ∙ by_said (said_of g id stated)
-  where
-    by_said : (ds : List Said) → (node_or_new (told_of ds None)).index ≡ first (flat_map indexes_said ds)
-    by_said [] = refl
-    by_said (d ∷ ds) = ap (λ o. (node_or_new o).index) (told_of-some ds (said_to d new_node)) ∙ index_is (d ∷ ds)
+index_stated g id stated graphs is = ap (λ (n : Node). n.index) (node_stated g id stated graphs is) ∙ index_is (said_of g id stated)
 
 index_conflict : (o : Option (List ℕ)) (g id index : List ℕ) (s : State) (stated : List Statement) → o ≡ first (flat_map indexes_said (said_of g id stated)) → IsFirst stated s.conflict
     → IsFirst (stated ++ of_node g id (an_index index) ∷ []) (index_by o g id index s).conflict
@@ -303,7 +307,7 @@ some_once : (ts : List (List ℕ)) → not (is_empty (once_by bytes_eq ts)) ≡ 
 some_once [] = refl
 some_once (t ∷ ts) = refl
 
-node_as_said : (id : List ℕ) (ds : List Said) (n : Node) → IsNode n → n ≡ all_said ds new_node → IsAsSaid ds (node_members id n)
+pub node_as_said : (id : List ℕ) (ds : List Said) (n : Node) → IsNode n → n ≡ all_said ds new_node → IsAsSaid ds (node_members id n)
 node_as_said id ds n node is = record {
   types = types_there id n node ∙ ap (λ (n : Node). n.types) is ∙ types_are ds;
   typed = typed_there id n node ∙ ap (λ (n : Node). not (is_empty n.types)) is ∙ ap (λ ts. not (is_empty ts)) (types_are ds) ∙ some_once (flat_map types_said ds);

@@ -3,6 +3,7 @@ use Rattle.std.specs.Prelude.{ℕ, map as each, ◌++◌, Err, length, ◌≡◌
 use Rattle.std.specs.List.{AllByRecursion}
 use Rattle.ld_model.specs.Tree.{Tree, Pairs, text, object, member_list, member_at, AreAscending}
 use Rattle.ld_model.specs.Keys.{id_key}
+use Rattle.ld_model.specs.Flatten.{flatten}
 use Rattle.ld_model.specs.NodeMap as plain
 use Rattle.ld_model.specs.Plain.{are_plain_items}
 use Rattle.node_model.specs.DueForm.{has_due_form}
@@ -64,3 +65,7 @@ RenamingLabelsChangesNothing = (to : List ℕ → List ℕ) → IsRenaming to �
 -- For a plain document generation gives what its definition for plain documents gives.
 abbrev pub PlainDocumentsAreACase : Type 0
 PlainDocumentsAreACase = (ts : List Tree) → are_plain_items ts ≡ true → generate ts ≡ Ok (record { graphs = (plain.generate ts).graphs; issued = (plain.generate ts).issued })
+
+-- A flattened document without blank nodes stays as it is when it is flattened again.
+abbrev pub FlatteningAgainChangesNothing : Type 0
+FlatteningAgainChangesNothing = (ts : List Tree) (m : Generated) → generate ts ≡ Ok m → m.issued ≡ 0 → (again : Generated) × (generate (flatten m.graphs) ≡ Ok again) × (flatten again.graphs ≡ flatten m.graphs)

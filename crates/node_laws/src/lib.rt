@@ -1,10 +1,13 @@
 //! Laws of node map generation (JSON-LD 1.1 API, section 7.2), as `node_model` defines it.
 //!
-//! There is no code here. Each function does nothing, and its contract is one law, which `specs/Laws.antt` states.
+//! There is no code here. Each function does nothing, and its contract is one law, which `specs/Laws.antt` states in the words of
+//! `specs/Uses.antt`, `specs/Names.antt`, `specs/Stated.antt` and `specs/Renamed.antt`. What a contract elsewhere says by `generate` is
+//! thereby known to be in the due form and in order, and to have what the document states and nothing else.
+//!
 //! `proofs/Alike.antt` serves whoever walks a document with other steps: steps that answer alike make walks that end alike.
 #![tactic(auto)]
 
-ghost use Rattle.node_laws.specs.Laws.{BlankNodesHaveIssuedLabels, ConflictsAreThoseStated, LabelsAreIssuedInOrder, NodeMapsAreAsStated, NodeMapsHaveTheDueForm, OutcomeIsDetermined, PlainDocumentsAreACase, RenamingLabelsChangesNothing, TheFirstConflictStays};
+ghost use Rattle.node_laws.specs.Laws.{BlankNodesHaveIssuedLabels, ConflictsAreThoseStated, FlatteningAgainChangesNothing, LabelsAreIssuedInOrder, NodeMapsAreAsStated, NodeMapsHaveTheDueForm, OutcomeIsDetermined, PlainDocumentsAreACase, RenamingLabelsChangesNothing, TheFirstConflictStays};
 
 /// The node map of any list of trees, where there is no conflict of indexes, has the due form (JSON-LD 1.1 API, section 7.2): the
 /// default graph is there, each graph is a map from ids to nodes, and each node a map with its id, perhaps an index and types, and for
@@ -70,4 +73,12 @@ pub fn renaming_labels_changes_nothing()
 /// laws of `flatten_laws` on plain documents hold of generation as it is defined for every document.
 pub fn plain_documents_are_a_case()
     ensures { PlainDocumentsAreACase }
+{}
+
+/// A document that is flattened stays as it is when it is flattened again (JSON-LD 1.1 API, sections 7.1 and 7.2), if no label was issued
+/// for it, so that no node of it is blank. The outcome then has no conflict of indexes either.
+///
+/// With blank nodes it may change, since labels are issued anew, in the order of the outcome: `proofs/Examples.antt` has such a document.
+pub fn flattening_again_changes_nothing()
+    ensures { FlatteningAgainChangesNothing }
 {}
