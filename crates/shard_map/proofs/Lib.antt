@@ -1,0 +1,5 @@
+mod Spans
+mod Places
+mod Sums
+mod Moves
+mod Sharing
