@@ -1,6 +1,8 @@
 -- A map and its seats as clauses see them, and what a call may do to a seat.
-use Rattle.std.specs.Prelude.{◌≡◌, ◌≢◌, ℕ, ◌+◌, ◌*◌, ◌%◌, ◌⊎◌, Bool, true, false, ◌&&◌, ◌||◌, ◌==◌, nat_lt, List, [], ◌∷◌, ◌++◌, length, Option, Some, None, slice_index_or, Contains}
+use Rattle.std.specs.Prelude.{◌≡◌, ◌≢◌, ℕ, ◌<◌, ◌≤◌, ◌+◌, ◌*◌, ◌%◌, ◌⊎◌, Bool, true, false, ◌&&◌, ◌||◌, ◌==◌, nat_lt, List, [], ◌∷◌, ◌++◌, length, Option, Some, None, slice_index_or, Contains}
 use Rattle.atomic_table.specs.Seated.{TableId}
+use Rattle.shard_map.specs.declared.entering.Entering.{Entering}
+use Rattle.shard_map.specs.declared.entering.Entering.TheVariants.{Entered, Filled, Busy}
 use Rattle.shard_map.specs.declared.view.View.{View}
 use Rattle.shard_map.specs.Views.{covers, keep_of, whole}
 
@@ -32,6 +34,18 @@ is_marked pieces marks j p = nat_lt p pieces && slice_index_or marks (j * pieces
 pub record AreMarked (pieces : ℕ) (marks : List Bool) (pairs : List (ℕ × ℕ)) : Type 0 where
   pub shows : (j p : ℕ) → is_marked pieces marks j p ≡ true → Contains pairs (j, p)
   pub has : (j p : ℕ) → Contains pairs (j, p) → is_marked pieces marks j p ≡ true
+
+-- What holds of a seat between any two calls: how its share, its marks and its room stand to what it knows
+pub record Fits {J : Type 0} (count shards : J → ℕ) (v : View J) (share pieces : ℕ) (marks : List Bool) (room : ℕ) : Type 0 where
+  pub idle : v.turn ≡ None
+  pub same : share ≡ v.share
+  pub some : 0 < share
+  pub most : share ≤ whole
+  pub marked : AreMarked pieces marks v.pairs
+  pub pieces_are : (o : J) → v.job ≡ Some o → pieces ≡ count o
+  pub marks_len : (o : J) → v.job ≡ Some o → length marks ≡ shards o * count o
+  pub keeps_len : (o : J) → v.job ≡ Some o → length v.keeps ≡ shards o
+  pub room_is : (o : J) → v.job ≡ Some o → shards o ≤ room
 
 module _ {J : Type 0} where
   -- a call on shard j left the job, the share and all that the seat keeps of other shards
@@ -69,3 +83,9 @@ module _ {J : Type 0} where
     pub last : (keep_of w j).last ≡ n
     pub cause : (((keep_of w j).reads ≡ (keep_of v j).reads + 1) × (n % 2 ≡ 1)) ⊎ (((keep_of w j).reads ≡ (keep_of v j).reads + 2) × ((keep_of w j).before % 2 ≡ 0) × ((keep_of w j).before ≢ n))
     pub part : v.share ≢ whole
+
+-- what became of the part: the first where it was entered, the second of the part that was handed back where its place was filled, the third of it and the word where the turn could not be had
+abbrev pub MatchEntering : {P : Type 0} → Entering P → Type 0 → (P → Type 0) → (P → ℕ → Type 0) → Type 0
+MatchEntering Entered A F G = A
+MatchEntering (Filled p) A F G = F p
+MatchEntering (Busy p n) A F G = G p n

@@ -6,6 +6,12 @@
 //! so it is never kept waiting. The rule that holds between any two steps stands in `specs/Rule.antt`.
 #![tactic(auto)]
 
+mod entering;
+mod handles;
+mod runs;
+mod turns;
 mod view;
 
+pub use entering::Entering;
+pub use handles::{MapSeat, ShardMap};
 pub use view::{Keep, View};
