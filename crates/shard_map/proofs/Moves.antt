@@ -14,13 +14,13 @@ use Rattle.std.proofs.lemmas.List.Elements.{Contains-append_left, Contains-appen
 use prog.Atomic.{either}
 use Rattle.atomic_table.specs.Table.{State, Act, Me, step, stepped, carried_after, Valid, Allows}
 use Rattle.atomic_table.specs.Table.Act.{keeps, takes, gives}
-use Rattle.atomic_table.proofs.Lists.{at_set, set_here, set_else}
+use Rattle.atomic_table.proofs.Lists.{at_set, set_here, set_else, set_again}
 use Rattle.shard_map.specs.declared.view.Keep.{Keep}
 use Rattle.shard_map.specs.declared.view.View.{View}
 use Rattle.shard_map.specs.Views.{covers, Rises, spans, new_pieces, pairs_of, keep_of, after_read, after_take, after_end, has_read, has_taken, has_ended, total, whole, unseen}
-use Rattle.shard_map.specs.Rule.{Slot, Stands, IsRun, Good, IsHome, Holds, Learns, HasRead, HasTried, HasEnded}
+use Rattle.shard_map.specs.Rule.{Slot, Stands, IsRun, Good, IsHome, Holds, Learns, HasRead, HasTried, HasEnded, HasWeighed}
 use Rattle.shard_map.proofs.Spans.{nothing_in, new-shows, new-has, pairs-shows, pairs-has}
-use Rattle.shard_map.proofs.Sums.{same_at, at_here, total-set, two_shares, left-set}
+use Rattle.shard_map.proofs.Sums.{same_at, at_here, total-set, share_in, two_shares, left-set}
 
 module _ {J P : Type 0} (count shards : J → ℕ) (fails : J → ℕ → Bool) (part : J → ℕ → ℕ → P) (start_of end_of : P → ℕ) (both : P → P → P) (job : J) where
   abbrev Ok : State (Slot P) (View J) → Type 0
@@ -129,6 +129,18 @@ module _ {J P : Type 0} (count shards : J → ℕ) (fails : J → ℕ → Bool) 
           (reseats s id v h at w s.words s.homes h.entered refl refl refl h.inside own (λ k u ne e. h.each k u e)
             (λ k i u ne e turn mine'. absurd (cc (idle, mine'))) h.even (λ i l o. inr (o, λ e. absurd (cc (idle, e)))) (λ q c'. c') (λ i p e. inl e)),
         (refl, refl, λ full still. finds_even s id v h at full still j low),
+      )
+
+  -- a look that tells of the share
+  pub weighs : (id : ℕ) (v : View J) (c : List (ℕ × Slot P)) (j slots : ℕ) → Allows Ok slots id (v, c) j (λ n. n) (HasWeighed (step slots j 0 0 none) (v, c))
+  weighs id v c j slots s h homes at fits =
+      (
+        v,
+        keeps,
+        tt,
+        subst (λ (ws : List ℕ). Ok record { words = ws; homes = s.homes; views = set s.views id v }) (sym (set-get_or s.words j 0))
+          (subst (λ (vs : List (View J)). Ok record { words = s.words; homes = s.homes; views = vs }) (sym (set_again s.views id v at)) h),
+        (refl, refl, let b = share_in s.views id v at in let o = h.shares in omega arith),
       )
 
   module _ (s : State (Slot P) (View J)) (id : ℕ) (v : View J) (h : Ok s) (at : get_elem? s.views id ≡ some v) (j new : ℕ) (low : j < shards job) where

@@ -84,3 +84,7 @@ module _ {J P : Type 0} (count shards : J → ℕ) (fails : J → ℕ → Bool) 
 -- What a look tells: a whole seat finds the word even
 abbrev pub HasRead : {J P : Type 0} → Step (Slot P) → Me (Slot P) (View J) → ℕ → Me (Slot P) (View J) → Type 0
 HasRead st m found n = (n.1 ≡ m.1) × (n.0 ≡ has_read m.0 st.word found) × (m.0.share ≡ whole → m.0.turn ≡ None → found % 2 ≡ 0)
+
+-- What a seat is told of its share, where nothing else changes: it is at most all of it
+abbrev pub HasWeighed : {J P : Type 0} → Step (Slot P) → Me (Slot P) (View J) → ℕ → Me (Slot P) (View J) → Type 0
+HasWeighed st m found n = (n.1 ≡ m.1) × (n.0 ≡ m.0) × (m.0.share ≤ whole)

@@ -30,6 +30,12 @@ IsSeatOf m s = (s.which ≡ m.which) × (s.view.job ≡ Some m.job)
 abbrev pub is_marked : ℕ → List Bool → ℕ → ℕ → Bool
 is_marked pieces marks j p = nat_lt p pieces && slice_index_or marks (j * pieces + p) false
 
+-- what is marked in either of two lists
+abbrev pub united : List Bool → List Bool → List Bool
+united [] ns = []
+united (m ∷ ms) [] = m ∷ ms
+united (m ∷ ms) (n ∷ ns) = (m || n) ∷ united ms ns
+
 -- just the pairs of the list are marked
 pub record AreMarked (pieces : ℕ) (marks : List Bool) (pairs : List (ℕ × ℕ)) : Type 0 where
   pub shows : (j p : ℕ) → is_marked pieces marks j p ≡ true → Contains pairs (j, p)

@@ -8,6 +8,7 @@
 
 mod entering;
 mod handles;
+mod map;
 mod runs;
 mod turns;
 mod view;

@@ -76,6 +76,15 @@ impl<J: Piecework> Play<Option<Vec<J::Part>>, View<J>> for Ends {
     ghost then = { HasEnded J.count J.shard_count J.fails J.part J.Part.start_of J.Part.end_of J.Part.both };
 }
 
+/// A look that tells of the seat's share alone.
+pub struct Weighs;
+
+impl<J: Piecework> Play<Option<Vec<J::Part>>, View<J>> for Weighs {
+    ghost use Rattle.shard_map.specs.Rule.{HasWeighed};
+
+    ghost then = { HasWeighed };
+}
+
 /// A seat becomes two, or two become one.
 pub struct Halves;
 
