@@ -5,11 +5,12 @@ use Rattle.std.proofs.lemmas.List.{get_or-set_same, get_or-set_other}
 use Rattle.std.proofs.Math.ListN.{length-set}
 use Rattle.shard_map.specs.declared.view.Keep.{Keep}
 use Rattle.shard_map.specs.declared.view.View.{View}
-use Rattle.shard_map.specs.Views.{covers, unseen, after_read, after_take, after_end, keep_of, has_read, has_taken, has_ended, whole}
-use Rattle.shard_map.specs.Seats.{AreMarked, Fits, KeepsRest, TookTurn, HasEntered, WasFilled, WasBusy}
+use Rattle.shard_map.specs.Views.{covers, unseen, after_read, after_take, after_end, keep_of, has_read, has_taken, has_ended, joined, whole}
+use Rattle.shard_map.specs.Seats.{AreMarked, AreUnited, Fits, KeepsRest, TookTurn, HasEntered, WasFilled, WasBusy}
 use Rattle.shard_map.proofs.Spans.{covers-insert}
 use Rattle.shard_map.proofs.Places.{Contains-insert}
-use Rattle.shard_map.proofs.Marks.{one_marked}
+use Rattle.shard_map.proofs.Listing.{one_marked, both_marked}
+use Rattle.shard_map.proofs.Sums.{length-both}
 
 module _ {J : Type 0} (v : View J) (j : ℕ) (kept : j < length v.keeps) where
   module _ (n : ℕ) where
@@ -153,3 +154,22 @@ module _ {J : Type 0} (count shards : J → ℕ) (job : J) (v a b w : View J) (j
   fits_by kept share pieces room marks old =
       let l = length_ended v j kept n next began left (insert (keep_of (has_taken (has_read v j n) j n next began) j).began at (p, p + 1)) ((j, p) ∷ []) in
       fits_entered count shards v w share pieces marks room job j p own row low (ap (λ (z : View J). z.turn) ended_is) (ap (λ (z : View J). z.job) ended_is) (ap (λ (z : View J). z.share) ended_is) (ap (λ (z : View J). z.pairs) ended_is) (ap (λ (z : View J). length z.keeps) ended_is ∙ l) old
+
+-- a seat that took in another
+pub fits_joined : {J : Type 0} (count shards : J → ℕ) (job : J) (v w u : View J) (share share' pieces pieces' room room' : ℕ) (marks marks' both : List Bool) → v.job ≡ Some job → w.job ≡ Some job
+    → Fits count shards v share pieces marks room → Fits count shards w share' pieces' marks' room' → AreUnited marks marks' both → u ≡ joined v w → u.share ≤ whole → Fits count shards u (share + share') pieces both room
+fits_joined {J} count shards job v w u share share' pieces pieces' room room' marks marks' both own own' a b union is most =
+    let same : pieces' ≡ pieces = b.pieces_are job own' ∙ sym (a.pieces_are job own) in
+    let sum : share + share' ≡ u.share = ap (λ n. n + share') a.same ∙ (ap (λ n. v.share + n) b.same ∙ ap (λ (z : View J). z.share) (sym is)) in
+    let some = a.some in
+    subst (λ (z : View J). Fits count shards z (share + share') pieces both room) (sym is) (record {
+      idle = a.idle;
+      same = sum ∙ ap (λ (z : View J). z.share) is;
+      some = omega arith;
+      most = omega arith;
+      marked = both_marked pieces marks marks' both v.pairs w.pairs union a.marked (subst (λ n. AreMarked n marks' w.pairs) same b.marked);
+      pieces_are = a.pieces_are;
+      marks_len = λ o e. union.len ∙ a.marks_len o e;
+      keeps_len = λ o e. length-both v.keeps w.keeps ∙ a.keeps_len o e;
+      room_is = a.room_is;
+    })

@@ -1,7 +1,7 @@
 mod Spans
 mod Places
 mod Inserts
-mod Marks
+mod Listing
 mod Clauses
 mod Sums
 mod Moves

@@ -31,10 +31,9 @@ abbrev pub is_marked : ℕ → List Bool → ℕ → ℕ → Bool
 is_marked pieces marks j p = nat_lt p pieces && slice_index_or marks (j * pieces + p) false
 
 -- what is marked in either of two lists
-abbrev pub united : List Bool → List Bool → List Bool
-united [] ns = []
-united (m ∷ ms) [] = m ∷ ms
-united (m ∷ ms) (n ∷ ns) = (m || n) ∷ united ms ns
+pub record AreUnited (ms ns both : List Bool) : Type 0 where
+  pub len : length both ≡ length ms
+  pub each : (i : ℕ) → slice_index_or both i false ≡ (slice_index_or ms i false || slice_index_or ns i false)
 
 -- just the pairs of the list are marked
 pub record AreMarked (pieces : ℕ) (marks : List Bool) (pairs : List (ℕ × ℕ)) : Type 0 where

@@ -9,6 +9,7 @@
 mod entering;
 mod handles;
 mod map;
+mod marks;
 mod runs;
 mod turns;
 mod view;

@@ -1,43 +1,14 @@
 //! The calls.
 ghost use Rattle.std.specs.Prelude.{◌≡◌, ℕ, ◌+◌, ◌*◌, ◌<◌, ◌≤◌, ◌||◌, true, false, length, Contains, IfOk, MatchResult, MatchBool, replicate};
 ghost use Rattle.shard_map.specs.Views.{rest_of, half_of, joined};
-ghost use Rattle.shard_map.specs.Seats.{IsSeatOf, MatchEntering, HasEntered, WasFilled, WasBusy, united};
+ghost use Rattle.shard_map.specs.Seats.{IsSeatOf, MatchEntering, HasEntered, WasFilled, WasBusy};
 
 use crate::entering::Entering;
 use crate::handles::{MapSeat, ShardMap};
+use crate::marks::{blank, has_mark, mark_at, unite};
 use crate::view::{Halves, Weighs};
 use job_core::Piecework;
-use std::alloc::{AllocError, Global};
-
-/// Where the mark of a pair stands.
-fn mark_at(pieces: u32, shard: u32, piece: u32) -> usize
-    ensures { result ≡ shard * pieces + piece }
-{
-    shard as usize * pieces as usize + piece as usize
-}
-
-/// No marks yet.
-pub(crate) fn blank(alloc: Global, count: usize) -> Result<Vec<bool>, AllocError>
-    ensures { IfOk result (λ marks. marks.items ≡ replicate count false) }
-{
-    let mut marks = Vec::with_capacity(alloc, count)?;
-    for _ in 0..count {
-        marks.push(false)?;
-    }
-    Ok(marks)
-}
-
-/// Adds the marks of another list.
-fn unite(marks: &mut Vec<bool>, others: &Vec<bool>)
-    requires { length marks.old.items ≡ length others.now.items }
-    ensures { marks.new.items ≡ united marks.old.items others.now.items }
-{
-    for at in 0..others.len() {
-        if others[at] {
-            marks[at] = true;
-        }
-    }
-}
+use std::alloc::AllocError;
 
 impl<J: Piecework> MapSeat<J> {
     /// The seat's share. The seat that was opened with the map has 2^40, which is all.
@@ -90,13 +61,7 @@ impl<J: Piecework> ShardMap<J> {
     pub fn entered(&self, seat: &MapSeat<J>, shard: u32, piece: u32) -> bool
         ensures { MatchBool result (Contains seat.now.view.pairs (shard, piece)) (Contains seat.now.view.pairs (shard, piece) → ⊥) }
     {
-        if piece >= seat.pieces {
-            return false;
-        }
-        match seat.marks.get(mark_at(seat.pieces, shard, piece)) {
-            Some(mark) => *mark,
-            None => false,
-        }
+        has_mark(&seat.marks, seat.pieces, shard, piece)
     }
 
     /// A further seat, with half of this one's share, rounded down, and an empty list. This one keeps the rest.
