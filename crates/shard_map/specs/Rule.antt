@@ -1,5 +1,5 @@
 -- The rule of a map in shards, which holds between any two steps, and what each step on a word tells.
-use Rattle.std.specs.Prelude.{◌≡◌, ◌≢◌, ℕ, zero, suc, ◌+◌, ◌-◌, ◌%◌, ◌^◌, ◌<◌, ◌≤◌, ◌⊎◌, Bool, true, false, ◌==◌, List, [], ◌∷◌, length, Option, Some, None, slice_index, Contains, MatchBool, Vec, vec_capacity}
+use Rattle.std.specs.Prelude.{◌≡◌, ◌≢◌, ℕ, zero, suc, ◌+◌, ◌-◌, ◌%◌, ◌^◌, ◌<◌, ◌≤◌, ◌⊎◌, Bool, true, false, ◌==◌, List, [], ◌∷◌, length, Option, Some, None, slice_get, slice_index, count_by, ◌&&◌, nat_lt, nat_le, if◌then◌else◌, Contains, MatchBool, Vec, vec_capacity}
 use mathlib.Core.Option.{some}
 use lib.ListN.{get_elem?}
 use Rattle.std.specs.declared.alloc.Global.{Global}
@@ -21,6 +21,21 @@ pub record Stands {J : Type 0} (shards : J → ℕ) (job : J) (entered : ℕ →
   pub listed : (q : ℕ × ℕ) → Contains v.pairs q → entered q.0 q.1 ≡ true
   -- where it is whole, each word is as its own last step on that word left it
   pub left : v.share ≡ whole → (j n : ℕ) → (keep_of v j).left ≡ Some n → slice_index words j ≡ n
+
+-- a slot at the start: no runs, and room for so many
+abbrev pub IsFresh : {P : Type 0} → ℕ → Slot P → Type 0
+IsFresh room None = ⊥
+IsFresh room (Some runs) = (runs.items ≡ []) × (room ≤ vec_capacity runs)
+
+-- what a slot has at the end, where its word is n: a seat that was let go in its turn may have left an odd word
+abbrev pub home_runs : {P : Type 0} → ℕ → Slot P → List P
+home_runs n None = []
+home_runs n (Some runs) = if n % 2 == 0 then runs.items else []
+
+abbrev pub gathered : {P : Type 0} → List ℕ → List (Slot P) → List (List P)
+gathered [] xs = []
+gathered (n ∷ ns) [] = []
+gathered (n ∷ ns) (x ∷ xs) = home_runs n x ∷ gathered ns xs
 
 module _ {J P : Type 0} (count shards : J → ℕ) (fails : J → ℕ → Bool) (part : J → ℕ → ℕ → P) (start_of end_of : P → ℕ) (both : P → P → P) where
   -- what the parts of n + 1 pieces from a on come to
@@ -61,6 +76,13 @@ module _ {J P : Type 0} (count shards : J → ℕ) (fails : J → ℕ → Bool) 
     pub even : (j : ℕ) → j < shards job → slice_index s.words j % 2 ≡ 0 → IsHome job entered s.homes j
     pub odd : (j : ℕ) → j < shards job → slice_index s.words j % 2 ≡ 1 → (id : ℕ) × (v : View J) × (get_elem? s.views id ≡ some v) × (v.turn ≡ Some j)
     pub known : (j p : ℕ) → entered j p ≡ true → (id : ℕ) × (v : View J) × (get_elem? s.views id ≡ some v) × Contains v.pairs (j, p)
+
+  -- What a map comes to, for each shard a list of runs. For a whole seat each pair of its list is in just one of them.
+  pub record IsClosed (job : J) (v : View J) (lists : List (List P)) : Type 0 where
+    pub shard_lists : length lists ≡ shards job
+    pub rises : (j : ℕ) (runs : List P) → slice_get lists j ≡ Some runs → Rises 0 (spans start_of end_of runs)
+    pub own : (j : ℕ) (runs : List P) → slice_get lists j ≡ Some runs → (x : P) → Contains runs x → IsRun job j x
+    pub all : v.share ≡ whole → (j p : ℕ) → Contains v.pairs (j, p) → (runs : List P) × (slice_get lists j ≡ Some runs) × (count_by (λ x. nat_le (start_of x) p && nat_lt p (end_of x)) runs ≡ 1)
 
   -- what a seat learns of the runs whose turn it takes
   pub record Learns (job : J) (v : View J) (j : ℕ) (runs : Vec P Global) : Type 0 where

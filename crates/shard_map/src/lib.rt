@@ -6,10 +6,12 @@
 //! so it is never kept waiting. The rule that holds between any two steps stands in `specs/Rule.antt`.
 #![tactic(auto)]
 
+mod close;
 mod entering;
 mod handles;
 mod map;
 mod marks;
+mod open;
 mod runs;
 mod turns;
 mod view;
