@@ -3,6 +3,7 @@ mod Places
 mod Inserts
 mod Listing
 mod Clauses
+mod Closing
 mod Sums
 mod Moves
 mod Sharing

@@ -1,17 +1,19 @@
 -- Opening, splitting, joining and closing: the rule at the start, and what becomes of shares and lists.
 use Rattle.std.proofs.Common.{◌≡◌, ℕ, zero, suc, ◌+◌, ◌-◌, ◌/◌, ◌%◌, ◌<◌, ◌≤◌, ◌≢◌, ◌⊎◌, ◌^◌, Bool, true, false, List, [], ◌∷◌, ◌++◌, length, set, get_or, map, replicate, refl, sym, ap, ◌∙◌, subst, inl, inr, ⊎_elim, slice_index, Option, Some, None, arith, Vec, vec_capacity}
-use Rattle.std.specs.Prelude.{Contains}
+use Rattle.std.specs.Prelude.{Contains, All}
 use Rattle.std.specs.declared.alloc.Global.{Global}
-use mathlib.Core.Option.{some, none}
+use mathlib.Core.Option.{some, none, some-injective}
 use mathlib.Core.Logic.{dite}
 use native.Mathlib.Decide.{ℕ_discrete}
 use lib.ListN.{get_elem?}
+use Rattle.std.proofs.lemmas.Bool.{both_ways}
+use Rattle.std.proofs.lemmas.List.{length-replicate, get_or-replicate, length-map}
 use Rattle.std.proofs.lemmas.List.Elements.{Contains-append_left, Contains-append_right, Contains-append_cases}
 use Rattle.atomic_table.specs.Table.{State, Splits, Joins, opening}
 use Rattle.atomic_table.proofs.Lists.{at_set, at_snoc, set_else, at_longer, at_last}
 use Rattle.shard_map.specs.declared.view.View.{View}
-use Rattle.shard_map.specs.Views.{covers, keep_of, opened, rest_of, half_of, joined, spent, total, whole, unseen}
-use Rattle.shard_map.specs.Rule.{Slot, Stands, IsHome, Holds}
+use Rattle.shard_map.specs.Views.{covers, Rises, spans, keep_of, opened, rest_of, half_of, joined, spent, total, whole, unseen}
+use Rattle.shard_map.specs.Rule.{Slot, Stands, IsHome, IsFresh, Holds}
 use Rattle.shard_map.proofs.Spans.{nothing_in}
 use Rattle.shard_map.proofs.Sums.{same_at, at_here, total-set, total-last, share_in, left-unseen, left-both}
 
@@ -134,3 +136,48 @@ module _ {J P : Type 0} (count shards : J → ℕ) (fails : J → ℕ → Bool) 
           (λ ne. dite (ℕ_discrete k other)
             (λ (is : k ≡ other). (id, joined v w, here, Contains-append_right v.pairs w.pairs q (subst (λ (l : List (ℕ × ℕ)). Contains l q) (ap (λ (z : View J). z.pairs) (second_is k u is e)) c)))
             (λ ne'. (k, u, elsewhere k u ne ne' e, c)))
+
+  -- a map at its start
+  pub opens : (words : List ℕ) (slots : List (Slot P)) (room : ℕ) → words ≡ replicate (shards job) 0 → length slots ≡ shards job → All (IsFresh room) slots → count job < room → Ok (opening words slots (opened job (shards job)))
+  opens words slots room zeros len fresh more = record {
+    entered = λ j p. false;
+    inside = λ j p e. absurd (both_ways false refl e);
+    words_len = ap length zeros ∙ length-replicate (shards job) 0;
+    homes_len = length-map slots some ∙ len;
+    shares = omega arith;
+    each = λ id u e. subst (λ (z : View J). Fine (λ j p. false) words z) (only id u e) first;
+    apart = λ a b j u w ea eb ta tb. absurd (cc (ap (λ (z : View J). z.turn) (only a u ea), ta));
+    even = λ j low e. let y = fresh_at slots room j (omega arith) fresh in record {
+      runs = y.0;
+      at = y.1;
+      good = record {
+        rises = subst (λ l. Rises 0 (spans start_of end_of l)) (sym y.2) tt;
+        own = λ x c. absurd (nothing_in x (subst (λ l. Contains l x) y.2 c));
+        covered = λ p. ap (λ l. covers (spans start_of end_of l) p) y.2;
+      };
+      room = let r = y.3 in omega arith;
+    };
+    odd = λ j low o. absurd (let z : slice_index words j ≡ 0 = ap (λ (l : List ℕ). slice_index l j) zeros ∙ get_or-replicate (shards job) j 0 0 low in omega arith);
+    known = λ j p e. absurd (both_ways false refl e);
+  }
+    where
+      only : (id : ℕ) (u : View J) → get_elem? (opened job (shards job) ∷ []) id ≡ some u → opened job (shards job) ≡ u
+      only zero u e = some-injective (opened job (shards job)) u e
+      only (suc id) u e = absurd (cc)
+      unseen_left : (n i m : ℕ) → (get_or (replicate n unseen) i unseen).left ≡ Some m → ⊥
+      unseen_left zero i m e = absurd (cc)
+      unseen_left (suc n) zero m e = absurd (cc)
+      unseen_left (suc n) (suc i) m e = unseen_left n i m e
+      first : Fine (λ j p. false) words (opened job (shards job))
+      first = record {
+        own = λ o e. let same : job ≡ o = cc (e) in sym same;
+        idle = λ z. absurd (omega arith);
+        turning = λ j e. absurd (cc (e));
+        listed = λ q c. absurd (nothing_in q c);
+        left = λ full j n e. absurd (unseen_left (shards job) j n e);
+      }
+      fresh_at : (xs : List (Slot P)) (n j : ℕ) → j < length xs → All (IsFresh n) xs → (y : Vec P Global) × (get_elem? (map some xs) j ≡ some (some (Some y))) × (y.items ≡ []) × (n ≤ vec_capacity y)
+      fresh_at [] n j l all = absurd (omega arith)
+      fresh_at (None ∷ xs) n zero l all = absurd (all 0 None (omega arith))
+      fresh_at (Some y ∷ xs) n zero l all = let f = all 0 None (omega arith) in (y, refl, f.0, f.1)
+      fresh_at (x ∷ xs) n (suc j) l all = fresh_at xs n j (omega arith) (λ k d a. all (suc k) d (omega arith))
