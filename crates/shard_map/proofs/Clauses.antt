@@ -1,12 +1,12 @@
 -- From the steps of a call to what its clauses say of the seat.
-use Rattle.std.proofs.Common.{◌≡◌, ℕ, zero, suc, ◌+◌, ◌*◌, ◌%◌, ◌<◌, ◌≤◌, ◌⊎◌, ◌≢◌, Bool, true, false, List, [], ◌∷◌, ◌++◌, length, set, get_or, refl, sym, ap, ◌∙◌, subst, inl, inr, ⊎_elim, Option, Some, None, arith}
+use Rattle.std.proofs.Common.{◌≡◌, ℕ, ◌+◌, ◌*◌, ◌%◌, ◌<◌, ◌≤◌, ◌≢◌, Bool, true, false, List, [], ◌∷◌, length, set, refl, sym, ap, ◌∙◌, subst, inl, inr, Some, None, arith}
 use Rattle.std.specs.Prelude.{Contains, ◌||◌, ◌==◌, insert}
 use Rattle.std.proofs.lemmas.List.{get_or-set_same, get_or-set_other}
 use Rattle.std.proofs.Math.ListN.{length-set}
 use Rattle.shard_map.specs.declared.view.Keep.{Keep}
 use Rattle.shard_map.specs.declared.view.View.{View}
 use Rattle.shard_map.specs.Views.{covers, unseen, after_read, after_take, after_end, keep_of, has_read, has_taken, has_ended, joined, whole}
-use Rattle.shard_map.specs.Seats.{AreMarked, AreUnited, Fits, KeepsRest, TookTurn, HasEntered, WasFilled, WasBusy}
+use Rattle.shard_map.specs.Seats.{AreMarked, AreUnited, Fits, TookTurn, HasEntered, WasFilled, WasBusy}
 use Rattle.shard_map.proofs.Spans.{covers-insert}
 use Rattle.shard_map.proofs.Places.{Contains-insert}
 use Rattle.shard_map.proofs.Listing.{one_marked, both_marked}
@@ -140,7 +140,7 @@ module _ {J : Type 0} (count shards : J → ℕ) (v w : View J) (share pieces : 
 
 -- a call that entered a part, step by step
 module _ {J : Type 0} (count shards : J → ℕ) (job : J) (v a b w : View J) (j p n next left at : ℕ) (began : List (ℕ × ℕ)) (own : v.job ≡ Some job) (row : j < shards job) (low : p < count job)
-  (looked : a ≡ has_read v j n) (took : b ≡ has_taken a j n next began) (free : covers (keep_of b j).began p ≡ false) (ended : w ≡ has_ended b j left (insert (keep_of b j).began at (p, p + 1)) ((j, p) ∷ [])) where
+    (looked : a ≡ has_read v j n) (took : b ≡ has_taken a j n next began) (free : covers (keep_of b j).began p ≡ false) (ended : w ≡ has_ended b j left (insert (keep_of b j).began at (p, p + 1)) ((j, p) ∷ [])) where
   taken_is : b ≡ has_taken (has_read v j n) j n next began
   taken_is = took ∙ ap (λ (z : View J). has_taken z j n next began) looked
 

@@ -1,16 +1,16 @@
 -- What a map comes to.
-use Rattle.std.proofs.Common.{◌≡◌, ℕ, zero, suc, ◌+◌, ◌%◌, ◌<◌, ◌≤◌, ◌⊎◌, ◌≢◌, Bool, true, false, List, [], ◌∷◌, ◌++◌, length, cond, map, drop, refl, sym, ap, ◌∙◌, subst, inl, inr, ⊎_elim, slice_index, Option, Some, None, arith, Vec}
-use Rattle.std.specs.Prelude.{Contains, count_by, sum_by, slice_get, ◌&&◌, ◌||◌, ◌==◌, nat_le, nat_lt, if◌then◌else◌}
+use Rattle.std.proofs.Common.{◌≡◌, ℕ, zero, suc, ◌+◌, ◌%◌, ◌<◌, ◌≢◌, Bool, true, false, List, [], ◌∷◌, ◌++◌, length, cond, map, drop, refl, sym, ap, ◌∙◌, subst, ⊎_elim, slice_index, Some, None, arith, Vec}
+use Rattle.std.specs.Prelude.{Contains, count_by, slice_get, ◌&&◌, ◌||◌, nat_le, nat_lt, if◌then◌else◌}
 use Rattle.std.specs.declared.alloc.Global.{Global}
-use mathlib.Core.Option.{some, none, some-injective}
+use mathlib.Core.Option.{some, some-injective}
 use lib.ListN.{get_elem?}
-use Rattle.std.proofs.lemmas.Bool.{both_ways, and_parts, and_right, and_left, or_cases, cases_Bool, cases_eq, le-ltb, lt-leb, ltb-true, leb-true, eq-eqb, ne_eqb}
+use Rattle.std.proofs.lemmas.Bool.{both_ways, and_parts, and_left, cases_Bool, cases_eq, lt-leb, ltb-true, eq-eqb, ne_eqb}
 use Rattle.std.proofs.lemmas.List.{map-append, append_assoc}
 use Rattle.atomic_table.proofs.Lists.{drop_at}
 use Rattle.std.proofs.lemmas.List.Sums.{sum_by-cons}
 use Rattle.atomic_table.specs.Table.{State, Final, Seen}
 use Rattle.shard_map.specs.declared.view.View.{View}
-use Rattle.shard_map.specs.Views.{covers, Rises, spans, whole}
+use Rattle.shard_map.specs.Views.{covers, Rises, spans}
 use Rattle.shard_map.specs.Rule.{Slot, IsRun, Holds, home_runs, gathered, IsClosed}
 use Rattle.shard_map.proofs.Spans.{nothing_in}
 use Rattle.shard_map.proofs.Moves.{finds_even}
@@ -34,9 +34,9 @@ module _ {P : Type 0} (start_of end_of : P → ℕ) where
   just_one [] a p up e = absurd (both_ways false refl e)
   just_one (x ∷ xs) a p up e = ⊎_elim
       (λ (t : has p x ≡ true). let low = ltb-true p (end_of x) (and_parts (nat_le (start_of x) p) (nat_lt p (end_of x)) t).1 in
-        counts p x xs ∙ (ap (λ b. cond b 1 0 + count_by (has p) xs) t ∙ (let h = behind xs (end_of x) p up.2 low in omega arith)))
+      counts p x xs ∙ (ap (λ b. cond b 1 0 + count_by (has p) xs) t ∙ (let h = behind xs (end_of x) p up.2 low in omega arith)))
       (λ (t : has p x ≡ false). counts p x xs ∙ (ap (λ b. cond b 1 0 + count_by (has p) xs) t ∙
-        (let later : covers (spans start_of end_of xs) p ≡ true = ap (λ b. b || covers (spans start_of end_of xs) p) (sym t) ∙ e in let h = just_one xs (end_of x) p up.2 later in omega arith)))
+      (let later : covers (spans start_of end_of xs) p ≡ true = ap (λ b. b || covers (spans start_of end_of xs) p) (sym t) ∙ e in let h = just_one xs (end_of x) p up.2 later in omega arith)))
       (cases_Bool (has p x))
 
 module _ {P : Type 0} where
@@ -75,37 +75,38 @@ module _ {J P : Type 0} (count shards : J → ℕ) (fails : J → ℕ → Bool) 
     rises = λ j runs e. (good j runs e).0;
     own = λ j runs e. (good j runs e).1;
     all = λ full j p c.
-      let entered = (h.each id v at).listed (j, p) c in
-      let low = h.inside j p entered in
-      let even = finds_even count shards fails part start_of end_of both job s id v h at full idle j low in
-      let home = h.even j low even in
-      let there = homes j (Some home.runs) home.at in
-      let get = at_gathered ws xs j (Some home.runs) there (let l = long in omega arith) in (
-        home.runs.items,
-        get ∙ ap Some (even_runs (slice_index ws j) home.runs (ap (λ (l : List ℕ). slice_index l j % 2) (sym words) ∙ even)),
-        just_one start_of end_of home.runs.items 0 p home.good.rises (home.good.covered p ∙ entered),
-      );
+        let entered = (h.each id v at).listed (j, p) c in
+        let low = h.inside j p entered in
+        let even = finds_even count shards fails part start_of end_of both job s id v h at full idle j low in
+        let home = h.even j low even in
+        let there = homes j (Some home.runs) home.at in
+        let get = at_gathered ws xs j (Some home.runs) there (let l = long in omega arith) in (
+          home.runs.items,
+          get ∙ ap Some (even_runs (slice_index ws j) home.runs (ap (λ (l : List ℕ). slice_index l j % 2) (sym words) ∙ even)),
+          just_one start_of end_of home.runs.items 0 p home.good.rises (home.good.covered p ∙ entered),
+        );
   }
     where
       long : length ws ≡ shards job
       long = ap length (sym words) ∙ h.words_len
+
       good : (j : ℕ) (runs : List P) → slice_get (gathered ws xs) j ≡ Some runs → Rises 0 (spans start_of end_of runs) × ((x : P) → Contains runs x → IsRun count shards fails part start_of end_of both job j x)
       good j runs e =
           let g = of_gathered ws xs j runs e in
           ⊎_elim
-            (λ (t : slice_index ws j % 2 ≡ 0).
-              let home = h.even j (let l = long in let k = g.2 in omega arith) (ap (λ (l : List ℕ). slice_index l j % 2) words ∙ t) in
-              let slot : g.0 ≡ Some home.runs = some-injective g.0 (Some home.runs) (sym g.1 ∙ homes j (Some home.runs) home.at) in
-              let is : home.runs.items ≡ runs = sym (even_runs (slice_index ws j) home.runs t) ∙ (ap (home_runs (slice_index ws j)) (sym slot) ∙ g.3) in (
-                subst (λ l. Rises 0 (spans start_of end_of l)) is home.good.rises,
-                λ x c. home.good.own x (subst (λ l. Contains l x) (sym is) c),
-              ))
-            (λ (t : slice_index ws j % 2 ≡ 0 → ⊥).
-              let is : [] ≡ runs = sym (odd_none (slice_index ws j) g.0 t) ∙ g.3 in (
-                subst (λ l. Rises 0 (spans start_of end_of l)) is tt,
-                λ x c. absurd (nothing_in x (subst (λ l. Contains l x) (sym is) c)),
-              ))
-            (cases_eq (slice_index ws j % 2) 0)
+          (λ (t : slice_index ws j % 2 ≡ 0).
+          let home = h.even j (let l = long in let k = g.2 in omega arith) (ap (λ (l : List ℕ). slice_index l j % 2) words ∙ t) in
+          let slot : g.0 ≡ Some home.runs = some-injective g.0 (Some home.runs) (sym g.1 ∙ homes j (Some home.runs) home.at) in
+          let is : home.runs.items ≡ runs = sym (even_runs (slice_index ws j) home.runs t) ∙ (ap (home_runs (slice_index ws j)) (sym slot) ∙ g.3) in (
+            subst (λ l. Rises 0 (spans start_of end_of l)) is home.good.rises,
+            λ x c. home.good.own x (subst (λ l. Contains l x) (sym is) c),
+          ))
+          (λ (t : slice_index ws j % 2 ≡ 0 → ⊥).
+          let is : [] ≡ runs = sym (odd_none (slice_index ws j) g.0 t) ∙ g.3 in (
+            subst (λ l. Rises 0 (spans start_of end_of l)) is tt,
+            λ x c. absurd (nothing_in x (subst (λ l. Contains l x) (sym is) c)),
+          ))
+          (cases_eq (slice_index ws j % 2) 0)
 
 -- one more list of runs was laid down
 pub one_more : {P : Type 0} (lists next : List (Vec P Global)) (y : Vec P Global) (ws : List ℕ) (xs : List (Slot P)) (at n : ℕ) (x : Slot P) (all : List (List P)) → next ≡ lists ++ y ∷ [] → y.items ≡ home_runs n x → get_elem? ws at ≡ some n → get_elem? xs at ≡ some x

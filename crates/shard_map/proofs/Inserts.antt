@@ -1,5 +1,5 @@
 -- A part that enters: what becomes of the runs.
-use Rattle.std.proofs.Common.{◌≡◌, ℕ, zero, suc, ◌+◌, ◌-◌, ◌<◌, ◌≤◌, ◌⊎◌, ◌≢◌, Bool, true, false, List, [], ◌∷◌, length, refl, sym, ap, ◌∙◌, subst, inl, inr, ⊎_elim, arith}
+use Rattle.std.proofs.Common.{◌≡◌, ℕ, suc, ◌+◌, ◌-◌, ◌<◌, ◌≤◌, Bool, true, false, List, [], ◌∷◌, length, refl, sym, ap, ◌∙◌, subst, ⊎_elim, arith}
 use Rattle.std.specs.Prelude.{Contains, ◌||◌, ◌==◌, insert, Option, None, Some, MatchOption, Vec}
 use Rattle.std.specs.declared.alloc.Global.{Global}
 use Rattle.shard_map.specs.declared.view.View.{View}
@@ -64,8 +64,8 @@ module _ {J P : Type 0} (count shards : J → ℕ) (fails : J → ℕ → Bool) 
   pub put_ended : (r : Option P) (old new : Vec P Global) (y : P) (p j left : ℕ) (v w : View J) (began : List (ℕ × ℕ)) → WasPut r old new y p → start_of y ≡ p → end_of y ≡ p + 1 → began ≡ spans start_of end_of old.items
       → w ≡ has_ended v j left (spans start_of end_of new.items) (pairs_of j (new_pieces began (spans start_of end_of new.items)))
       → MatchOption r
-        ((covers began p ≡ false) × (at : ℕ) × (w ≡ has_ended v j left (insert began at (p, p + 1)) ((j, p) ∷ [])))
-        (λ kept. (kept ≡ y) × (covers began p ≡ true) × (w ≡ has_ended v j left began []))
+      ((covers began p ≡ false) × (at : ℕ) × (w ≡ has_ended v j left (insert began at (p, p + 1)) ((j, p) ∷ [])))
+      (λ kept. (kept ≡ y) × (covers began p ≡ true) × (w ≡ has_ended v j left began []))
   put_ended None old new y p j left v w began put starts ends is told =
       let free : covers began p ≡ false = ap (λ l. covers l p) is ∙ put.0 in
       let after : spans start_of end_of new.items ≡ insert began put.2 (p, p + 1) = ap (spans start_of end_of) put.3 ∙ (spans-part old.items put.2 p y starts ends ∙ ap (λ l. insert l put.2 (p, p + 1)) (sym is)) in

@@ -1,6 +1,6 @@
 -- The marks of the pairs in a seat's list.
-use Rattle.std.proofs.Common.{◌≡◌, ℕ, zero, suc, ◌+◌, ◌*◌, ◌<◌, ◌≤◌, ◌⊎◌, ◌≢◌, Bool, true, false, List, [], ◌∷◌, ◌++◌, length, set, get_or, replicate, refl, sym, ap, ◌∙◌, subst, inl, inr, ⊎_elim, mul-le-mul_right, suc-mul, arith}
-use Rattle.std.specs.Prelude.{Contains, MatchBool, ◌&&◌, ◌||◌, nat_lt}
+use Rattle.std.proofs.Common.{◌≡◌, ℕ, zero, suc, ◌+◌, ◌*◌, ◌<◌, ◌≤◌, ◌⊎◌, Bool, true, false, List, [], ◌∷◌, ◌++◌, length, set, get_or, replicate, refl, sym, ap, ◌∙◌, subst, ⊎_elim, mul-le-mul_right, suc-mul, arith}
+use Rattle.std.specs.Prelude.{Contains, MatchBool, ◌||◌, nat_lt}
 use Rattle.std.proofs.lemmas.Bool.{both_ways, and_parts, and_from, or_cases, cases_eq, cases_lt, cases_order, lt-ltb, ltb-true}
 use Rattle.std.proofs.Math.ListN.{length-set}
 use Rattle.std.proofs.lemmas.List.{get_or-set_same, get_or-set_other}
@@ -31,28 +31,32 @@ one_marked pieces rows j p marks pairs row low len old = record { shows = shows;
   where
     at : ℕ
     at = j * pieces + p
+
     inside : at < length marks
     inside = let l = in_rows j pieces p rows row low in omega arith
+
     now : get_or (set marks at true) at false ≡ true
     now = get_or-set_same marks at true false inside
+
     shows : (i q : ℕ) → is_marked pieces (set marks at true) i q ≡ true → Contains ((j, p) ∷ pairs) (i, q)
     shows i q e =
         let parts = and_parts (nat_lt q pieces) (get_or (set marks at true) (i * pieces + q) false) e in
         let r = ltb-true q pieces parts.0 in
         ⊎_elim
-          (λ (t : i * pieces + q ≡ at). let row' : i ≡ j = same_row i j pieces q p r low t in
-            let col : q ≡ p = let m = ap (λ z. z * pieces) row' in omega arith in
-            subst (λ (z : ℕ × ℕ). Contains ((j, p) ∷ pairs) z) (ap (λ z. (z, p)) (sym row') ∙ ap (λ z. (i, z)) (sym col)) (Contains-first (j, p) pairs))
-          (λ (t : i * pieces + q ≡ at → ⊥). Contains-later (j, p) pairs (i, q) (old.shows i q (and_from (nat_lt q pieces) (get_or marks (i * pieces + q) false) parts.0 (sym (get_or-set_other marks at (i * pieces + q) true false t) ∙ parts.1))))
-          (cases_eq (i * pieces + q) at)
+        (λ (t : i * pieces + q ≡ at). let row' : i ≡ j = same_row i j pieces q p r low t in
+        let col : q ≡ p = let m = ap (λ z. z * pieces) row' in omega arith in
+        subst (λ (z : ℕ × ℕ). Contains ((j, p) ∷ pairs) z) (ap (λ z. (z, p)) (sym row') ∙ ap (λ z. (i, z)) (sym col)) (Contains-first (j, p) pairs))
+        (λ (t : i * pieces + q ≡ at → ⊥). Contains-later (j, p) pairs (i, q) (old.shows i q (and_from (nat_lt q pieces) (get_or marks (i * pieces + q) false) parts.0 (sym (get_or-set_other marks at (i * pieces + q) true false t) ∙ parts.1))))
+        (cases_eq (i * pieces + q) at)
+
     has : (i q : ℕ) → Contains ((j, p) ∷ pairs) (i, q) → is_marked pieces (set marks at true) i q ≡ true
     has i q c = ⊎_elim
         (λ (t : (j, p) ≡ (i, q)). subst (λ (z : ℕ × ℕ). is_marked pieces (set marks at true) z.0 z.1 ≡ true) t (and_from (nat_lt p pieces) (get_or (set marks at true) at false) (lt-ltb p pieces low) now))
         (λ (t : Contains pairs (i, q)). let parts = and_parts (nat_lt q pieces) (get_or marks (i * pieces + q) false) (old.has i q t) in
-          and_from (nat_lt q pieces) (get_or (set marks at true) (i * pieces + q) false) parts.0 (⊎_elim
-            (λ (u : i * pieces + q ≡ at). ap (λ z. get_or (set marks at true) z false) u ∙ now)
-            (λ (u : i * pieces + q ≡ at → ⊥). get_or-set_other marks at (i * pieces + q) true false u ∙ parts.1)
-            (cases_eq (i * pieces + q) at)))
+        and_from (nat_lt q pieces) (get_or (set marks at true) (i * pieces + q) false) parts.0 (⊎_elim
+        (λ (u : i * pieces + q ≡ at). ap (λ z. get_or (set marks at true) z false) u ∙ now)
+        (λ (u : i * pieces + q ≡ at → ⊥). get_or-set_other marks at (i * pieces + q) true false u ∙ parts.1)
+        (cases_eq (i * pieces + q) at)))
         (Contains-cons (j, p) pairs (i, q) c)
 
 pub both_marked : (pieces : ℕ) (ms ns both : List Bool) (ps qs : List (ℕ × ℕ)) → AreUnited ms ns both → AreMarked pieces ms ps → AreMarked pieces ns qs → AreMarked pieces both (ps ++ qs)
@@ -62,21 +66,24 @@ both_marked pieces ms ns both ps qs united a b = record { shows = shows; has = h
     shows j p e =
         let parts = and_parts (nat_lt p pieces) (get_or both (j * pieces + p) false) e in
         ⊎_elim
-          (λ t. Contains-append_left ps qs (j, p) (a.shows j p (and_from (nat_lt p pieces) (get_or ms (j * pieces + p) false) parts.0 t)))
-          (λ t. Contains-append_right ps qs (j, p) (b.shows j p (and_from (nat_lt p pieces) (get_or ns (j * pieces + p) false) parts.0 t)))
-          (or_cases (get_or ms (j * pieces + p) false) (get_or ns (j * pieces + p) false) (sym (united.each (j * pieces + p)) ∙ parts.1))
+        (λ t. Contains-append_left ps qs (j, p) (a.shows j p (and_from (nat_lt p pieces) (get_or ms (j * pieces + p) false) parts.0 t)))
+        (λ t. Contains-append_right ps qs (j, p) (b.shows j p (and_from (nat_lt p pieces) (get_or ns (j * pieces + p) false) parts.0 t)))
+        (or_cases (get_or ms (j * pieces + p) false) (get_or ns (j * pieces + p) false) (sym (united.each (j * pieces + p)) ∙ parts.1))
+
     first : (x y : Bool) → x ≡ true → (x || y) ≡ true
     first true y e = refl
     first false y e = absurd (both_ways false refl e)
+
     second : (x y : Bool) → y ≡ true → (x || y) ≡ true
     second true y e = refl
     second false y e = e
+
     has : (j p : ℕ) → Contains (ps ++ qs) (j, p) → is_marked pieces both j p ≡ true
     has j p c = ⊎_elim
         (λ t. let parts = and_parts (nat_lt p pieces) (get_or ms (j * pieces + p) false) (a.has j p t) in
-          and_from (nat_lt p pieces) (get_or both (j * pieces + p) false) parts.0 (united.each (j * pieces + p) ∙ first (get_or ms (j * pieces + p) false) (get_or ns (j * pieces + p) false) parts.1))
+        and_from (nat_lt p pieces) (get_or both (j * pieces + p) false) parts.0 (united.each (j * pieces + p) ∙ first (get_or ms (j * pieces + p) false) (get_or ns (j * pieces + p) false) parts.1))
         (λ t. let parts = and_parts (nat_lt p pieces) (get_or ns (j * pieces + p) false) (b.has j p t) in
-          and_from (nat_lt p pieces) (get_or both (j * pieces + p) false) parts.0 (united.each (j * pieces + p) ∙ second (get_or ms (j * pieces + p) false) (get_or ns (j * pieces + p) false) parts.1))
+        and_from (nat_lt p pieces) (get_or both (j * pieces + p) false) parts.0 (united.each (j * pieces + p) ∙ second (get_or ms (j * pieces + p) false) (get_or ns (j * pieces + p) false) parts.1))
         (Contains-append_cases ps qs (j, p) c)
 
 -- the lists are united below n
@@ -105,6 +112,7 @@ united_all n ms ns so_far same all old = record { len = old.len; each = λ i. �
     get_or-beyond [] i l = refl
     get_or-beyond (b ∷ bs) zero l = absurd (omega arith)
     get_or-beyond (b ∷ bs) (suc i) l = get_or-beyond bs i (omega arith)
+
     ap2 : {a b : Bool} → a ≡ false → b ≡ false → (a || b) ≡ false
     ap2 {a} {b} e f = ap (λ z. z || b) e ∙ f
 

@@ -1,7 +1,7 @@
 -- Where a piece has its place among runs that ascend.
-use Rattle.std.proofs.Common.{◌≡◌, ℕ, zero, suc, ◌+◌, ◌-◌, ◌<◌, ◌≤◌, ◌⊎◌, ◌≢◌, Bool, true, false, List, [], ◌∷◌, ◌++◌, length, get_or, take, drop, refl, sym, ap, ◌∙◌, subst, inl, inr, ⊎_elim, le_trans, arith}
-use Rattle.std.specs.Prelude.{Contains, ◌&&◌, ◌||◌, ◌==◌, nat_lt, nat_le, map, insert}
-use Rattle.std.proofs.lemmas.Bool.{and_from, and_left, and_right, ltb-true, leb-true, lt-ltb, le-ltb, le-leb, lt-leb}
+use Rattle.std.proofs.Common.{◌≡◌, ℕ, zero, suc, ◌+◌, ◌<◌, ◌≤◌, ◌⊎◌, Bool, true, false, List, [], ◌∷◌, ◌++◌, length, get_or, take, drop, refl, ap, ◌∙◌, subst, inl, inr, ⊎_elim, le_trans, arith}
+use Rattle.std.specs.Prelude.{Contains, ◌&&◌, ◌||◌, nat_lt, nat_le, insert}
+use Rattle.std.proofs.lemmas.Bool.{and_from, and_left, and_right, leb-true, lt-ltb, le-ltb, le-leb, lt-leb}
 use Rattle.std.proofs.lemmas.List.{take-append-drop}
 use Rattle.std.proofs.lemmas.List.Elements.{Contains-append_left, Contains-append_right, Contains-append_cases}
 use Rattle.shard_map.proofs.Spans.{Contains-first, Contains-cons}

@@ -1,10 +1,10 @@
 -- Spans of pieces: which pieces they have, and which are new in the later of two lists.
-use Rattle.std.proofs.Common.{◌≡◌, ℕ, zero, suc, ◌+◌, ◌-◌, ◌<◌, ◌≤◌, ◌⊎◌, ◌≢◌, Bool, true, false, List, [], ◌∷◌, ◌++◌, length, get_or, take, drop, refl, sym, ap, ◌∙◌, subst, inl, inr, ⊎_elim, le_trans, arith}
-use Rattle.std.specs.Prelude.{Contains, not, ◌&&◌, ◌||◌, ◌==◌, nat_lt, nat_le, filter, map, cond, insert}
-use Rattle.std.proofs.lemmas.Bool.{both_ways, and_parts, and_from, and_left, and_right, or_cases, cases_Bool, cases_eq, cases_lt, not-true, ltb-true, leb-true, lt-ltb, le-ltb, le-leb, lt-leb, eq-eqb, ne_eqb, eqb-true}
+use Rattle.std.proofs.Common.{◌≡◌, ℕ, zero, suc, ◌+◌, ◌-◌, ◌<◌, ◌≤◌, ◌⊎◌, Bool, true, false, List, [], ◌∷◌, ◌++◌, take, drop, refl, sym, ap, ◌∙◌, subst, inl, inr, ⊎_elim, arith}
+use Rattle.std.specs.Prelude.{Contains, not, ◌&&◌, ◌||◌, ◌==◌, nat_lt, nat_le, filter, cond, insert}
+use Rattle.std.proofs.lemmas.Bool.{both_ways, and_parts, and_from, and_left, and_right, or_cases, cases_Bool, cases_eq, cases_lt, ltb-true, leb-true, lt-ltb, le-ltb, le-leb, lt-leb, eq-eqb, ne_eqb}
 use Rattle.std.proofs.lemmas.List.{append_assoc, take-append-drop}
 use Rattle.std.proofs.lemmas.List.Elements.{Contains-append_left, Contains-append_right, Contains-append_cases, filter-append}
-use Rattle.shard_map.specs.Views.{covers, Rises, counted, pieces, new_pieces, pairs_of}
+use Rattle.shard_map.specs.Views.{covers, counted, pieces, new_pieces, pairs_of}
 
 pub Contains-cons : {X : Type 0} (x : X) (xs : List X) (y : X) → Contains (x ∷ xs) y → (x ≡ y) ⊎ Contains xs y
 Contains-cons x xs y (zero, l, e) = inl e
@@ -130,6 +130,7 @@ covers-insert ss i p q =
     turned true true c = refl
     turned true false c = refl
     turned false b c = refl
+
     only : (q ≡ p) ⊎ (q ≡ p → ⊥) → (nat_le p q && nat_lt q (p + 1)) ≡ (q == p)
     only (inl e) = and_from (nat_le p q) (nat_lt q (p + 1)) (le-leb p q (omega arith)) (lt-ltb q (p + 1) (omega arith)) ∙ sym (eq-eqb q p e)
     only (inr ne) = ⊎_elim
@@ -151,9 +152,12 @@ new-insert ss i p free =
   where
     fresh : ℕ → Bool
     fresh q = not (covers ss q)
+
     one : (p + 1) - p ≡ 1
     one = omega arith
+
     front : (q : ℕ) → Contains (pieces (take i ss)) q → fresh q ≡ false
     front q c = ap not (within (take i ss) (drop i ss) ss q (take-append-drop i ss) (inl (pieces-shows (take i ss) q c)))
+
     back : (q : ℕ) → Contains (pieces (drop i ss)) q → fresh q ≡ false
     back q c = ap not (within (take i ss) (drop i ss) ss q (take-append-drop i ss) (inr (pieces-shows (drop i ss) q c)))

@@ -1,5 +1,5 @@
 -- A map and its seats as clauses see them, and what a call may do to a seat.
-use Rattle.std.specs.Prelude.{◌≡◌, ◌≢◌, ℕ, ◌<◌, ◌≤◌, ◌+◌, ◌*◌, ◌%◌, ◌⊎◌, Bool, true, false, ◌&&◌, ◌||◌, ◌==◌, nat_lt, List, [], ◌∷◌, ◌++◌, length, Option, Some, None, slice_index_or, Contains}
+use Rattle.std.specs.Prelude.{◌≡◌, ◌≢◌, ℕ, ◌<◌, ◌≤◌, ◌+◌, ◌*◌, ◌%◌, ◌⊎◌, Bool, true, false, ◌&&◌, ◌||◌, ◌==◌, nat_lt, List, [], ◌∷◌, ◌++◌, length, Some, None, slice_index_or, Contains}
 use Rattle.atomic_table.specs.Seated.{TableId}
 use Rattle.shard_map.specs.declared.entering.Entering.{Entering}
 use Rattle.shard_map.specs.declared.entering.Entering.TheVariants.{Entered, Filled, Busy}

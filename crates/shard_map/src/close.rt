@@ -16,11 +16,7 @@ fn runs_of<P: Drop>(alloc: Global, word: u64, slot: Option<Vec<P>>) -> Vec<P>
     let Some(runs) = slot else {
         return Vec::new(alloc);
     };
-    if word % 2 == 0 {
-        runs
-    } else {
-        Vec::new(alloc)
-    }
+    if word % 2 == 0 { runs } else { Vec::new(alloc) }
 }
 
 /// The runs of each shard, laid into the lists, for which there is room.

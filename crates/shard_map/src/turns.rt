@@ -11,11 +11,7 @@ use job_core::Piecework;
 
 impl<J: Piecework> ShardMap<J> {
     /// Reads the word of a shard.
-    pub(crate) fn look(
-        &self,
-        seat: &mut Seat<Option<Vec<J::Part>>, View<J>>,
-        shard: u32,
-    ) -> u64
+    pub(crate) fn look(&self, seat: &mut Seat<Option<Vec<J::Part>>, View<J>>, shard: u32) -> u64
         requires seat { (seat.old.table_id ≡ self.now.which) × (seat.old.me.1 ≡ []) × (seat.old.me.0.turn ≡ None) }
         requires range { shard < J.shard_count self.now.job }
         ensures same { seat.new.table_id ≡ seat.old.table_id }

@@ -1,4 +1,4 @@
-use Rattle.std.proofs.Common.{arith, sym, ap, ◌∙◌, subst, ℕ, ◌<◌, ◌≡◌, ◌∷◌, [], true, Some, refl, vec_capacity}
+use Rattle.std.proofs.Common.{arith, sym, ap, ◌∙◌, subst, ℕ, ◌<◌, ◌≡◌, ◌∷◌, [], true, Some, vec_capacity}
 use Rattle.std.specs.Prelude.{Contains}
 use Rattle.atomic_table.specs.Table.{rest}
 use Rattle.shard_map.specs.declared.view.View.{View}
@@ -20,11 +20,11 @@ fetch_add-requires g c =
       h.0 ∙ (c.requires.seat.0 ∙ ap (λ z. z.which) (sym c.self.view_is)),
       omega arith,
       ends g.J.Piecework.count g.J.Piecework.shard_count g.J.Piecework.fails g.J.Piecework.part g.J.Part.Merge.start_of g.J.Part.Merge.end_of g.J.Part.Merge.both c.self.inside.table.shared.key _ c.exchange.new.seat.me.0 c.exchange.new.seat.me.1 c.args.shard _ c.args.runs
-        carries
-        (ap (λ (v : View g.row.J.Denot). v.turn) (sym stays) ∙ c.requires.seat.2)
-        (subst (λ (v : View g.row.J.Denot). 0 < v.share) stays c.requires.some)
-        c.requires.rises
-        (subst Own job c.requires.own)
-        (subst (λ (j : g.row.J.Denot). g.J.Piecework.count j < vec_capacity c.args.runs) job c.requires.room)
-        (subst Grows stays c.requires.grows),
+          carries
+          (ap (λ (v : View g.row.J.Denot). v.turn) (sym stays) ∙ c.requires.seat.2)
+          (subst (λ (v : View g.row.J.Denot). 0 < v.share) stays c.requires.some)
+          c.requires.rises
+          (subst Own job c.requires.own)
+          (subst (λ (j : g.row.J.Denot). g.J.Piecework.count j < vec_capacity c.args.runs) job c.requires.room)
+          (subst Grows stays c.requires.grows),
     )

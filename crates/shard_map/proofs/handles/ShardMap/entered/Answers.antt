@@ -1,6 +1,5 @@
 use Rattle.std.proofs.Common.{ℕ, List, ap, subst}
 use Rattle.std.specs.Prelude.{Contains, MatchBool}
-use Rattle.shard_map.specs.declared.view.View.{View}
 use Rattle.shard_map.proofs.Listing.{marked_or_not}
 use Rattle.shard_map.proofs.handles.ShardMap.entered.Goals as goal
 

@@ -39,6 +39,6 @@ invariant_of-seat g c =
       weighed.0 ∙ (ap (λ m. m.1) joined_is ∙ c.seat.invariant.0),
       c.seat.invariant.1,
       fits_joined g.J.Piecework.count g.J.Piecework.shard_count c.args.self.now.job c.seat.inside.seat.me.0 c.other.inside.seat.me.0 c.load.new.seat.me.0 c.seat.inside.share c.other.inside.share c.seat.inside.pieces c.other.inside.pieces _ _ c.seat.inside.marks.items c.other.inside.marks.items c.unite.new.marks.items own own' c.seat.invariant.2 c.other.invariant.2 (record { len = c.unite.ensures.len; each = c.unite.ensures.each })
-        (stays ∙ ap (λ m. m.0) joined_is)
-        (let w = weighed.2 in let e = ap (λ v. v.share) stays in omega arith),
+          (stays ∙ ap (λ m. m.0) joined_is)
+          (let w = weighed.2 in let e = ap (λ v. v.share) stays in omega arith),
     )

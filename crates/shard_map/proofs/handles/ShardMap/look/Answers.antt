@@ -1,4 +1,4 @@
-use Rattle.std.proofs.Common.{arith, sym, ap, ◌∙◌, subst, ◌<◌, ◌≡◌}
+use Rattle.std.proofs.Common.{arith, sym, ap, ◌∙◌, subst, ◌<◌}
 use Rattle.shard_map.proofs.handles.ShardMap.look.Goals as goal
 use Rattle.shard_map.proofs.Moves.{reads}
 

@@ -1,6 +1,5 @@
-use Rattle.std.proofs.Common.{arith, rules, sym, ap, ◌∙◌, subst, ℕ, ◌<◌, ◌≤◌, ◌+◌, ◌≡◌, ◌∷◌, [], true, length, Some, refl, vec_capacity}
+use Rattle.std.proofs.Common.{arith, rules, sym, ap, ◌∙◌, ◌+◌, ◌≡◌}
 use Rattle.shard_map.specs.Views.{covers}
-use Rattle.shard_map.specs.Rule.{IsRun}
 use Rattle.shard_map.proofs.handles.ShardMap.use_turn.Goals as goal
 use Rattle.shard_map.proofs.Inserts.{few, part_runs, put_own, put_grows, put_ended}
 
@@ -15,8 +14,8 @@ pub end_turn-requires-clause-own : goal.end_turn-requires-clause-own
 end_turn-requires-clause-own g c =
     let place : (g.J.Part.Merge.start_of c.args.part ≡ c.args.piece) × (g.J.Part.Merge.end_of c.args.part ≡ c.args.piece + 1) = search rules in
     put_own g.J.Piecework.count g.J.Piecework.shard_count g.J.Piecework.fails g.J.Piecework.part g.J.Part.Merge.start_of g.J.Part.Merge.end_of g.J.Part.Merge.both c.args.self.now.job c.put-kept.result c.args.runs c.put-kept.new.runs c.args.part c.args.piece c.args.shard c.put-kept.ensures.put
-      (part_runs g.J.Piecework.count g.J.Piecework.shard_count g.J.Piecework.fails g.J.Piecework.part g.J.Part.Merge.start_of g.J.Part.Merge.end_of g.J.Part.Merge.both c.args.self.now.job c.args.shard c.args.piece c.args.part c.requires.part.1 c.requires.range.1 c.requires.part.0 place.0 place.1)
-      c.requires.own
+    (part_runs g.J.Piecework.count g.J.Piecework.shard_count g.J.Piecework.fails g.J.Piecework.part g.J.Part.Merge.start_of g.J.Part.Merge.end_of g.J.Part.Merge.both c.args.self.now.job c.args.shard c.args.piece c.args.part c.requires.part.1 c.requires.range.1 c.requires.part.0 place.0 place.1)
+    c.requires.own
 
 pub end_turn-requires-clause-grows : goal.end_turn-requires-clause-grows
 end_turn-requires-clause-grows g c q e =
