@@ -20,6 +20,22 @@ impl<J: Piecework> MapSeat<J> {
 }
 
 impl<J: Piecework> ShardMap<J> {
+    /// The number of pieces of the map's job.
+    pub fn pieces(&self) -> u32
+        ensures count { result ≡ J.count self.now.job }
+        ensures most { result ≤ 4096 }
+    {
+        self.pieces
+    }
+
+    /// The number of shards.
+    pub fn shards(&self) -> u32
+        ensures count { result ≡ J.shard_count self.now.job }
+        ensures range { (0 < result) × (result ≤ 64) }
+    {
+        self.shards
+    }
+
     /// Enters the part that a piece gives for a shard, in one turn of the shard, or hands it back.
     pub fn try_enter(
         &self,

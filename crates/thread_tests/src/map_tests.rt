@@ -1,5 +1,5 @@
 // The map in shards, on one thread: two seats that take turns in each order.
-ghost use Rattle.std.specs.Prelude.{◌≡◌, ◌+◌, ◌×◌, ◌<◌, ◌≤◌, IfOk};
+ghost use Rattle.std.specs.Prelude.{◌≡◌, ◌<◌};
 ghost use Rattle.shard_map.specs.Seats.{IsSeatOf};
 
 use crate::job::Span;
@@ -28,14 +28,9 @@ fn handed_back(part: Span, piece: u32, came: Came) -> Came {
 }
 
 /// Tries once to enter a piece in a shard.
-fn enter(
-    map: &ShardMap<Spread>,
-    seat: &mut MapSeat<Spread>,
-    shard: u32,
-    piece: u32,
-) -> Came
+fn enter(map: &ShardMap<Spread>, seat: &mut MapSeat<Spread>, shard: u32, piece: u32) -> Came
     requires seat { IsSeatOf map.now seat.old }
-    requires range { (shard < map.now.job.shards) × (piece < map.now.job.pieces) }
+    requires range { (shard < map.now.job.shards) × (piece < map.now.job.pieces) × (piece < 100) }
     ensures seat { IsSeatOf map.now seat.new }
 {
     let part = Span {
@@ -58,7 +53,7 @@ fn enter_by_one(
     piece: u32,
 ) -> bool
     requires seats { IsSeatOf map.now first.old × IsSeatOf map.now second.old }
-    requires range { (shard < map.now.job.shards) × (piece < map.now.job.pieces) }
+    requires range { (shard < map.now.job.shards) × (piece < map.now.job.pieces) × (piece < 100) }
     ensures seats { IsSeatOf map.now first.new × IsSeatOf map.now second.new }
 {
     let came = enter(map, first, shard, piece);
@@ -76,6 +71,7 @@ fn enter_all_by(
 ) -> bool
     requires seats { IsSeatOf map.now a.old × IsSeatOf map.now b.old }
     requires job { (map.now.job.shards ≡ 2) × (map.now.job.pieces ≡ 3) }
+    requires number { number < 64 }
     ensures seats { IsSeatOf map.now a.new × IsSeatOf map.now b.new }
 {
     let mut fine = true;
@@ -94,14 +90,14 @@ fn enter_all_by(
 /// Whether a shard has the pieces 0, 1 and 2, in order.
 fn has_three(runs: &Vec<Span>) -> bool {
     runs.len() == 3
-        && runs
-            .iter()
-            .enumerate()
-            .all(|(place, run)| run.first as usize == place && run.end as usize == place + 1)
+        && runs.iter().enumerate().all(|(place, run)| run.first as usize == place
+            && run.end as usize == place + 1)
 }
 
 /// Two seats enter all pairs, one takes in the other, and the map is closed.
-fn run(alloc: Global, number: u32) -> Result<bool, AllocError> {
+fn run(alloc: Global, number: u32) -> Result<bool, AllocError>
+    requires { number < 64 }
+{
     let job = Spread {
         pieces: 3,
         shards: 2,
