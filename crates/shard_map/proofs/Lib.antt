@@ -1,0 +1,9 @@
+mod Spans
+mod Places
+mod Inserts
+mod Listing
+mod Clauses
+mod Closing
+mod Sums
+mod Moves
+mod Sharing
