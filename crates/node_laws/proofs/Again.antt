@@ -252,17 +252,17 @@ module _ (graphs : Graphs) (map : IsMap graphs) (named : OfGraphs 0 graphs) wher
       (found_is (λ m. IsOther m.0) id t top (into_other (graph_pairs graphs) _ (graph_names_other graphs named) (node_ids default_graph)) is)
       (part_at id (graph_pairs graphs)) refl (ap (node_or_new id) (sym is) ∙ top_at id)))
 
+  id_in_top : (g : List ℕ) → member_at id_key (node_at g top) ≡ Some (text g)
+  id_in_top g = ap (member_at id_key) (top_at g) ∙ by_part (part_at g (graph_pairs graphs))
+    where
+      by_part : (o : Option Tree) → member_at id_key (with_part o (contents default_graph g (graph_pairs graphs))) ≡ Some (text g)
+      by_part (Some u) = member_at-put_other id_key graph_key _ (contents default_graph g (graph_pairs graphs)) refl ∙ (item_at default_graph g).id_at
+      by_part None = (item_at default_graph g).id_at
+
   -- What is said again of a node of a graph.
   module _ (h k : List ℕ) where
     summed : of_this h k (stated_in (flatten (graph_pairs graphs))) ≡ flat_map (top_says h k part) (filter has_more top)
     summed = (tops_add h k part (filter has_more top) (record { state = record { labels = no_labels; stated = [] }; items = [] }) tops_all).said
-
-    id_in_top : (g : List ℕ) → member_at id_key (node_at g top) ≡ Some (text g)
-    id_in_top g = ap (member_at id_key) (top_at g) ∙ by_part (part_at g (graph_pairs graphs))
-      where
-        by_part : (o : Option Tree) → member_at id_key (with_part o (contents default_graph g (graph_pairs graphs))) ≡ Some (text g)
-        by_part (Some u) = member_at-put_other id_key graph_key _ (contents default_graph g (graph_pairs graphs)) refl ∙ (item_at default_graph g).id_at
-        by_part None = (item_at default_graph g).id_at
 
     said_with_part : (o : Option Tree) (ms : Pairs) → said_in (with_part o ms) ≡ said_in ms
     said_with_part (Some u) ms = said_in-put _ ms
@@ -347,7 +347,7 @@ module _ (graphs : Graphs) (map : IsMap graphs) (named : OfGraphs 0 graphs) wher
       by_part (Some u) is =
           let graph_at : member_at graph_key (node_at g top) ≡ Some (array (trees_of (nodes_of (graph_of (Some u))))) =
           ap (member_at graph_key) (top_at g ∙ ap (λ o. with_part o (contents default_graph g (graph_pairs graphs))) is) ∙ member_at-put graph_key _ (contents default_graph g (graph_pairs graphs)) in
-          kept (node_at g top) _ (two_members (node_at g top) (text g) _ (id_in_top [] [] g) graph_at) graph_at
+          kept (node_at g top) _ (two_members (node_at g top) (text g) _ (id_in_top g) graph_at) graph_at
 
   default_stands : is_some (member_at default_graph (graph_pairs graphs)) ≡ true
   default_stands = (both (is_some (member_at default_graph (graph_pairs graphs))) (list_all is_graph (graph_pairs graphs)) form.form).0

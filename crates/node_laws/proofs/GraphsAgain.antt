@@ -150,7 +150,7 @@ module _ (h : List ℕ) where
     item_states id ms w more is inner =
         let v = (entered_named g w (types_in ms) (text_at index_key ms) (id, w.state.labels)).1 in
         let u = walk_at stating id nowhere graph_key ms (with_graph stating id ms v) in
-        ap (λ z. about z || bytes_eq h g) (object_is [] [] g id ms w is ∙ contents_are [] [] g id ms v is)
+        ap (λ z. about z || bytes_eq h g) (object_is g id ms w is ∙ contents_are g id ms v is)
         ∙ properties_stay id ms u is.fine
         ∙ ap (λ b. b || bytes_eq h g) (inner v)
         ∙ turned (about v) more (bytes_eq h g)

@@ -84,6 +84,26 @@ pub data IsTop (part : List ℕ → Pairs) (m : List ℕ × Tree) : Type 0 where
   alone : IsNested m → part m.0 ≡ [] → IsTop part m
   with_part : (ms : Members) → m.1 ≡ object ms → IsItem m.0 ms → member_at graph_key (member_list ms) ≡ Some (array (trees_of (each (λ m. m.1) (part m.0)))) → bytes_eq m.0 default_graph ≡ false → AllByRecursion IsNested (part m.0) → IsTop part m
 
+-- What stands in it.
+abbrev pub contents_of : List ℕ → Members → List ℕ × At Stating Tree → At Stating Tree
+contents_of g ms node =
+    let turned = walk_reverse stating g node.0 ms node.1 in
+    let inside = walk_at stating node.0 nowhere graph_key ms (with_graph stating node.0 ms turned) in
+    let included = walk_at stating g nowhere included_key ms inside in
+    walk_properties stating g node.0 ms included
+
+pub object_is : (g id : List ℕ) (ms : Members) (w : At Stating Tree) → IsItem id ms → walk stating g nowhere (object ms) w ≡ contents_of g ms (entered_named g w (types_in ms) (text_at index_key ms) (id, w.state.labels))
+object_is g id ms w is =
+    ap (λ b. if b then value_into stating g nowhere (object ms) w else (if has_key list_key ms then w else contents_of g ms (entered stating g nowhere ms w))) is.no_value
+    ∙ ap (λ b. if b then w else contents_of g ms (entered stating g nowhere ms w)) is.no_list
+    ∙ ap (contents_of g ms) (entered_is g id ms w is)
+
+pub contents_are : (g id : List ℕ) (ms : Members) (v : At Stating Tree) → IsItem id ms
+    → contents_of g ms (id, v) ≡ walk_properties stating g id ms (walk_at stating id nowhere graph_key ms (with_graph stating id ms v))
+contents_are g id ms v is =
+    ap (λ w. walk_properties stating g id ms (walk_at stating g nowhere included_key ms (walk_at stating id nowhere graph_key ms (with_graph stating id ms w)))) (walk_reverse_none stating g id ms v is.no_reverse)
+    ∙ ap (walk_properties stating g id ms) (walk_none stating g nowhere included_key ms (walk_at stating id nowhere graph_key ms (with_graph stating id ms v)) is.no_included)
+
 module _ (h k : List ℕ) where
   if_append : (b : Bool) (xs ys : List Said) → if_this h k b xs ++ if_this h k b ys ≡ if_this h k b (xs ++ ys)
   if_append true xs ys = refl
@@ -116,26 +136,6 @@ module _ (h k : List ℕ) where
             ∙ append_assoc (of_this h k w.state.stated) (if_this h k b (each a_type (types_in ms))) (if_this h k b (index_said (text_at index_key ms)))
             ∙ ap (λ l. of_this h k w.state.stated ++ l) (if_append b (each a_type (types_in ms)) (index_said (text_at index_key ms)));
       }
-
-  -- What stands in it, by what is said in its graph.
-  abbrev pub contents_of : List ℕ → Members → List ℕ × At Stating Tree → At Stating Tree
-  contents_of g ms node =
-      let turned = walk_reverse stating g node.0 ms node.1 in
-      let inside = walk_at stating node.0 nowhere graph_key ms (with_graph stating node.0 ms turned) in
-      let included = walk_at stating g nowhere included_key ms inside in
-      walk_properties stating g node.0 ms included
-
-  pub object_is : (g id : List ℕ) (ms : Members) (w : At Stating Tree) → IsItem id ms → walk stating g nowhere (object ms) w ≡ contents_of g ms (entered_named g w (types_in ms) (text_at index_key ms) (id, w.state.labels))
-  object_is g id ms w is =
-      ap (λ b. if b then value_into stating g nowhere (object ms) w else (if has_key list_key ms then w else contents_of g ms (entered stating g nowhere ms w))) is.no_value
-      ∙ ap (λ b. if b then w else contents_of g ms (entered stating g nowhere ms w)) is.no_list
-      ∙ ap (contents_of g ms) (entered_is g id ms w is)
-
-  pub contents_are : (g id : List ℕ) (ms : Members) (v : At Stating Tree) → IsItem id ms
-      → contents_of g ms (id, v) ≡ walk_properties stating g id ms (walk_at stating id nowhere graph_key ms (with_graph stating id ms v))
-  contents_are g id ms v is =
-      ap (λ w. walk_properties stating g id ms (walk_at stating g nowhere included_key ms (walk_at stating id nowhere graph_key ms (with_graph stating id ms w)))) (walk_reverse_none stating g id ms v is.no_reverse)
-      ∙ ap (walk_properties stating g id ms) (walk_none stating g nowhere included_key ms (walk_at stating id nowhere graph_key ms (with_graph stating id ms v)) is.no_included)
 
   item_adds : (g id : List ℕ) (ms : Members) (w : At Stating Tree) (nested : List Said) → IsItem id ms
       → ((v : At Stating Tree) → Adds h k v (walk_at stating id nowhere graph_key ms (with_graph stating id ms v)) nested)

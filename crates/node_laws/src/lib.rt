@@ -21,8 +21,8 @@ pub fn node_maps_have_the_due_form()
 
 /// Labels of blank nodes are issued in the order in which the document needs them, without a gap (JSON-LD 1.1 API, section 7.4): one for
 /// each label of the document, where it is used first, and one for each node without an id. So the numbers of the labels are those from 0
-/// on, below the count that generation tells; each belongs to one label of the document or to one node without an id; and a label of the
-/// document has one number, wherever it is used: as an id, a property, a type, or the name of a graph.
+/// on, below the count that generation tells; each belongs to one label of the document or to one node without an id, and each label of
+/// the document has one number.
 pub fn labels_are_issued_in_order()
     ensures { LabelsAreIssuedInOrder }
 {}
