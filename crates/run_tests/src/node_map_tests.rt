@@ -1,6 +1,6 @@
 use flatten_out::flatten;
 use ld_json::{Tree, Trees, read_tree, text_of};
-use node_ops::{MapStop, node_map};
+use node_ops::{Conflict, MapStop, node_map};
 use std::alloc::{AllocError, Global};
 use std::test::Fail;
 
@@ -13,6 +13,10 @@ const NODE_MAP: &str =
 
 const FLATTENED: &str =
     r#"[{"@graph":[{"@id":"_:b1","e:p":[{"@list":[{"@id":"_:b0"}]}]}],"@id":"_:b0"},{"@id":"e:a","e:p":[{"@value":"x"},{"@id":"e:b"}]}]"#;
+
+// Three indexes of one node, of which the first two differ first.
+const INDEXED: &str =
+    r#"[{"@id":"_:x","@index":"1"},{"@id":"_:x","@index":"2"},{"@id":"_:x","@index":"3"}]"#;
 
 fn items_of(alloc: Global, text: &str) -> Result<Trees, AllocError> {
     match read_tree(alloc, text.as_bytes()) {
@@ -32,18 +36,18 @@ fn a_node_map_has_its_graphs_and_counts_its_labels(rt: HostRuntime) -> Result<()
     Ok(())
 }
 
+fn conflict_in(alloc: Global, text: &str) -> Result<Conflict, AllocError> {
+    let items = items_of(alloc, text)?;
+    match node_map(alloc, &items) {
+        Err(MapStop::Conflict(conflict)) => Ok(conflict),
+        _ => Err(AllocError),
+    }
+}
+
 #[test]
 fn a_conflict_names_the_node_and_both_indexes(rt: HostRuntime) -> Result<(), Fail> {
-    let items = items_of(
-        rt.alloc(),
-        r#"[{"@id":"_:x","@index":"1"},{"@id":"_:x","@index":"2"},{"@id":"_:x","@index":"3"}]"#,
-    )?;
-    match node_map(rt.alloc(), &items) {
-        Err(MapStop::Conflict(conflict)) => {
-            assert!(rt; conflict.node.as_str() == "_:b0");
-            assert!(rt; conflict.first.as_str() == "1" && conflict.second.as_str() == "2");
-        }
-        _ => assert!(rt; false),
-    }
+    let conflict = conflict_in(rt.alloc(), INDEXED)?;
+    assert!(rt; conflict.node.as_str() == "_:b0");
+    assert!(rt; conflict.first.as_str() == "1" && conflict.second.as_str() == "2");
     Ok(())
 }
