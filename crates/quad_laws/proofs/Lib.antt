@@ -6,3 +6,12 @@ pub mod Terms
 pub mod Statements
 pub mod Ends
 pub mod Whole
+pub mod Inverse
+pub mod Bodies
+pub mod LabelParts
+pub mod TagParts
+pub mod Spaces
+pub mod Parts
+pub mod Longest
+pub mod Found
+pub mod Line

@@ -52,16 +52,16 @@ object_start (Literal lexical datatype language) tail valid = (34, ((flat_map es
 
 -- ---- the statement, part by part
 
-abbrev from_graph : Term → Term → Term → (Option Term × List ℕ) → Result Quad (List ℕ)
+abbrev pub from_graph : Term → Term → Term → (Option Term × List ℕ) → Result Quad (List ℕ)
 from_graph s p o g = and_then (ending g.1) (λ _. Ok (quad_of s p o g.0))
 
-abbrev from_object : Term → Term → (Term × List ℕ) → Result Quad (List ℕ)
+abbrev pub from_object : Term → Term → (Term × List ℕ) → Result Quad (List ℕ)
 from_object s p o = and_then (graph o.1) (from_graph s p o.0)
 
-abbrev from_predicate : Term → (Term × List ℕ) → Result Quad (List ℕ)
+abbrev pub from_predicate : Term → (Term × List ℕ) → Result Quad (List ℕ)
 from_predicate s p = and_then (object p.1) (from_object s p.0)
 
-abbrev from_subject : (Term × List ℕ) → Result Quad (List ℕ)
+abbrev pub from_subject : (Term × List ℕ) → Result Quad (List ℕ)
 from_subject s = and_then (predicate s.1) (from_predicate s.0)
 
 abbrev behind_predicate : Quad → List ℕ
@@ -121,7 +121,7 @@ statement_back q g =
     ∙ ap (λ r. and_then r (from_object q.subject q.predicate)) (object_back q.object (behind_object q.graph) g.object_valid g.object_text third)
     ∙ ap (λ r. and_then r (from_graph q.subject q.predicate q.object)) (graph_back q.graph g.graph_valid g.graph_is_text g.graph_kind)
 
-if_any : (bs : List ℕ) → Starts bs → statement_if_any bs ≡ and_then (statement bs) (λ q. Ok (Some q))
+pub if_any : (bs : List ℕ) → Starts bs → statement_if_any bs ≡ and_then (statement bs) (λ q. Ok (Some q))
 if_any bs (b, rest, is, mark) = subst (λ l. statement_if_any l ≡ and_then (statement l) (λ q. Ok (Some q))) (sym is) refl
 
 tail_of : (g : Option Term) → graph_text g ++ codes " ." ≡ 32 ∷ behind_object g

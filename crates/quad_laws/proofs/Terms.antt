@@ -57,7 +57,7 @@ plain_cons lexical b rest (inr (inl is)) = subst (λ x. annotated lexical (x ∷
 plain_cons lexical b rest (inr (inr (inl is))) = subst (λ x. annotated lexical (x ∷ rest) ≡ Ok (Literal lexical (datatype_name XsdString) None, x ∷ rest)) (sym is) refl
 plain_cons lexical b rest (inr (inr (inr is))) = subst (λ x. annotated lexical (x ∷ rest) ≡ Ok (Literal lexical (datatype_name XsdString) None, x ∷ rest)) (sym is) refl
 
-plain_back : (lexical bs : List ℕ) → Starts bs → annotated lexical bs ≡ Ok (Literal lexical (datatype_name XsdString) None, bs)
+pub plain_back : (lexical bs : List ℕ) → Starts bs → annotated lexical bs ≡ Ok (Literal lexical (datatype_name XsdString) None, bs)
 plain_back lexical bs (b, rest, is, mark) = subst (λ l. annotated lexical l ≡ Ok (Literal lexical (datatype_name XsdString) None, l)) (sym is) (plain_cons lexical b rest mark)
 
 -- ---- IRIs and blank nodes
@@ -94,7 +94,7 @@ label_none : (bs : List ℕ) → label (34 ∷ bs) ≡ None
 label_none [] = refl
 label_none (b ∷ bs) = refl
 
-string_none : (bs : List ℕ) → node (34 ∷ bs) ≡ None
+pub string_none : (bs : List ℕ) → node (34 ∷ bs) ≡ None
 string_none bs = rw (label_none bs) refl
 
 tagged_back : (lexical tag bs : List ℕ) → is_tag tag ≡ true → Starts bs → annotated lexical (64 ∷ (tag ++ (32 ∷ bs))) ≡ Ok (Literal lexical (datatype_name RdfLangString) (Some tag), bs)
