@@ -12,7 +12,7 @@ use steal_pool::{Ran, Stop, run_pieces};
 
 /// What a run came to.
 #[derive(Clone, Copy, Debug, PartialEq, Eq)]
-enum Came {
+pub(crate) enum Came {
     /// So many answers, each twice its place, and the seats in order.
     Ran(usize),
     /// This piece failed with its own error, and all before it are answered.
@@ -76,7 +76,7 @@ fn seats(alloc: Global, workers: u32) -> Result<Vec<Tally>, AllocError>
 }
 
 /// What a job comes to with so many workers.
-fn run<G: Gate + Sync, R: Threads + Wait + Sync>(
+pub(crate) fn run<G: Gate + Sync, R: Threads + Wait + Sync>(
     rt: &R,
     alloc: Global,
     job: &Periodic,
@@ -101,7 +101,7 @@ fn expected(job: &Periodic) -> Came {
     Came::Ran(job.pieces as usize)
 }
 
-const OPEN: Doubles = Doubles { refused_at: None };
+pub(crate) const OPEN: Doubles = Doubles { refused_at: None };
 
 /// Jobs at the ends: no piece, one, as many as there may be, none fails, all fail, the last alone fails.
 const JOBS: [(u32, Periodic); 8] = [
