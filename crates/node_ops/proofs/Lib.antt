@@ -3,3 +3,4 @@ pub mod GraphLemmas
 pub mod Logs
 pub mod Once
 pub mod Pairs
+pub mod Rows

@@ -38,27 +38,27 @@ with_entries-twice p f g ps =
     ap (λ o. with_at p (f (entries_or_none o)) (with_at p es ps)) (at-with_at p es ps) ∙ with_at-with_at p (f es) es ps
 
 -- A log that ends with this property already has it.
-pub ends_with : (ts : List Told) (t : Told) (p : List ℕ) → t.property ≡ p → properties_told (ts ++ t ∷ []) [] ≡ with_entries p (λ es. es) (properties_told (ts ++ t ∷ []) [])
-ends_with ts t p is =
-    let whole : properties_told (ts ++ t ∷ []) [] ≡ with_entries p (all_told t.entries) (properties_told ts []) =
-    properties_told-append ts (t ∷ []) [] ∙ ap (λ q. with_entries q (all_told t.entries) (properties_told ts [])) is in
-    whole ∙ sym (with_entries-twice p (λ es. es) (all_told t.entries) (properties_told ts [])) ∙ ap (with_entries p (λ es. es)) (sym whole)
+pub ends_with : (ts : List Told) (t : Told) (p : List ℕ) (ps : MapOf (List Tree)) → t.property ≡ p → properties_told (ts ++ t ∷ []) ps ≡ with_entries p (λ es. es) (properties_told (ts ++ t ∷ []) ps)
+ends_with ts t p ps is =
+    let whole : properties_told (ts ++ t ∷ []) ps ≡ with_entries p (all_told t.entries) (properties_told ts ps) =
+    properties_told-append ts (t ∷ []) ps ∙ ap (λ q. with_entries q (all_told t.entries) (properties_told ts ps)) is in
+    whole ∙ sym (with_entries-twice p (λ es. es) (all_told t.entries) (properties_told ts ps)) ∙ ap (with_entries p (λ es. es)) (sym whole)
 
 -- A property of which nothing was told, behind a log.
-pub nothing_behind : (ts : List Told) (t : Told) (p : List ℕ) → t.property ≡ p → t.entries ≡ [] → properties_told (ts ++ t ∷ []) [] ≡ with_entries p (λ es. es) (properties_told ts [])
-nothing_behind ts t p is none =
-    properties_told-append ts (t ∷ []) [] ∙ ap (λ q. with_entries q (all_told t.entries) (properties_told ts [])) is
-    ∙ ap (λ es. with_entries p (all_told es) (properties_told ts [])) none
+pub nothing_behind : (ts : List Told) (t : Told) (p : List ℕ) (ps : MapOf (List Tree)) → t.property ≡ p → t.entries ≡ [] → properties_told (ts ++ t ∷ []) ps ≡ with_entries p (λ es. es) (properties_told ts ps)
+nothing_behind ts t p ps is none =
+    properties_told-append ts (t ∷ []) ps ∙ ap (λ q. with_entries q (all_told t.entries) (properties_told ts ps)) is
+    ∙ ap (λ es. with_entries p (all_told es) (properties_told ts ps)) none
 
 -- A further entry of the property with which a log ends.
-pub entry_behind : (ts : List Told) (t u : Told) (p : List ℕ) (e : Tree) (old : MapOf (List Tree)) → t.property ≡ p → u.property ≡ t.property → u.entries ≡ t.entries ++ e ∷ [] → properties_told (ts ++ t ∷ []) [] ≡ with_entries p (λ es. es) old → properties_told (ts ++ u ∷ []) [] ≡ with_entries p (told e) old
-entry_behind ts t u p e old is same more log =
-    let ps : MapOf (List Tree) = properties_told ts [] in
-    properties_told-append ts (u ∷ []) [] ∙ ap (λ q. with_entries q (all_told u.entries) ps) (same ∙ is)
-    ∙ ap (λ f. with_entries p f ps) (ap all_told more ∙ (λ i es. all_told-append t.entries (e ∷ []) es i))
-    ∙ sym (with_entries-twice p (told e) (all_told t.entries) ps)
-    ∙ ap (λ q. with_entries p (told e) (with_entries q (all_told t.entries) ps)) (sym is)
-    ∙ ap (with_entries p (told e)) (sym (properties_told-append ts (t ∷ []) []) ∙ log)
+pub entry_behind : (ts : List Told) (t u : Told) (p : List ℕ) (e : Tree) (ps old : MapOf (List Tree)) → t.property ≡ p → u.property ≡ t.property → u.entries ≡ t.entries ++ e ∷ [] → properties_told (ts ++ t ∷ []) ps ≡ with_entries p (λ es. es) old → properties_told (ts ++ u ∷ []) ps ≡ with_entries p (told e) old
+entry_behind ts t u p e ps old is same more log =
+    let before : MapOf (List Tree) = properties_told ts ps in
+    properties_told-append ts (u ∷ []) ps ∙ ap (λ q. with_entries q (all_told u.entries) before) (same ∙ is)
+    ∙ ap (λ f. with_entries p f before) (ap all_told more ∙ (λ i es. all_told-append t.entries (e ∷ []) es i))
+    ∙ sym (with_entries-twice p (told e) (all_told t.entries) before)
+    ∙ ap (λ q. with_entries p (told e) (with_entries q (all_told t.entries) before)) (sym is)
+    ∙ ap (with_entries p (told e)) (sym (properties_told-append ts (t ∷ []) ps) ∙ log)
     ∙ with_entries-twice p (told e) (λ es. es) old
 
 -- A log whose properties ascend has each of them once.

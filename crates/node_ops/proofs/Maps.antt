@@ -1,7 +1,8 @@
 -- Maps from texts whose keys ascend: what is put at a key, and a map seen through a function of its values.
-use Rattle.std.proofs.Common.{◌≡◌, ℕ, List, [], ◌∷◌, ◌++◌, cond, true, false, Option, Some, None, Ordering, Less, Equal, Greater, refl, sym, ap, ◌∙◌}
+use Rattle.std.proofs.Common.{◌≡◌, ℕ, List, [], ◌∷◌, ◌++◌, cond, true, false, Option, Some, None, Ordering, Less, Equal, Greater, refl, sym, ap, ◌∙◌, subst}
 use Rattle.std.specs.Option.{option_map}
-use Rattle.std.specs.Ordering.{match_ordering}
+use Rattle.std.specs.Ordering.{match_ordering, is_eq}
+use Rattle.std.specs.Str.{bytes_eq}
 use Rattle.std.specs.List.{AllByRecursion}
 use Rattle.std.specs.List.Sorted.{IsStrictlySortedBy}
 use Rattle.std.specs.Map.{keys_of, set_value}
@@ -9,7 +10,9 @@ use Rattle.std.specs.BTreeMap.{is_at, insert_entry}
 use Rattle.std.proofs.lemmas.Cmp.{nat_list_cmp_total}
 use Rattle.std.proofs.lemmas.Map.{lookup-none}
 use Rattle.std.proofs.lemmas.Map.Entries.{none_below_head}
+use Rattle.std.proofs.lemmas.Map.Lookups.{exact_bytes}
 use Rattle.std.proofs.lemmas.Map.Steps.{set_value_same}
+use Rattle.std.proofs.lemmas.Map.Text.{is_eq-slice_cmp}
 use Rattle.ld_model.specs.Tree.{byte_order, IsBefore}
 use Rattle.ld_model.proofs.Puts.{order-refl, flipped}
 use Rattle.node_model.specs.Maps.{MapOf, at, with_at}
@@ -55,6 +58,44 @@ module _ {V : Type 0} where
   -- What stands at a key, put there, changes nothing.
   pub with_at-same : (k : List ℕ) (v : V) (m : MapOf V) → IsStrictlySortedBy byte_order (keys_of m) → at k m ≡ Some v → with_at k v m ≡ m
   with_at-same k v m sorted there = sym (set_value-there k v v m sorted there) ∙ set_value_same (is_at (byte_order k)) m v there
+
+  -- What another key has stays, and what is put at two keys can be put there in either order.
+  pub at-apart : (k l : List ℕ) (w : V) (m : MapOf V) → bytes_eq k l ≡ false → at k (with_at l w m) ≡ at k m
+  unfolding with_at
+  at-apart k l w [] apart = rw (is_eq-slice_cmp k l ∙ apart) refl
+  at-apart k l w (e ∷ m) apart = by_order (byte_order l e.0) refl (at-apart k l w m apart)
+    where
+      by_order : (o : Ordering) → byte_order l e.0 ≡ o → at k (with_at l w m) ≡ at k m → at k (match_ordering o ((l, w) ∷ e ∷ m) ((e.0, w) ∷ m) (e ∷ with_at l w m)) ≡ at k (e ∷ m)
+      by_order Less is rest = rw (is_eq-slice_cmp k l ∙ apart) refl
+      by_order Equal is rest = let other : is_at (byte_order k) e.0 ≡ false = subst (λ x. is_at (byte_order k) x ≡ false) (exact_bytes l e.0 is) (is_eq-slice_cmp k l ∙ apart) in rw other refl
+      by_order Greater is rest = ap (λ o. cond (is_at (byte_order k) e.0) (Some e.1) o) rest
+
+  with_at-before : (k l : List ℕ) (v w : V) (m : MapOf V) → byte_order k l ≡ Less → with_at k v (with_at l w m) ≡ with_at l w (with_at k v m)
+  unfolding with_at
+  with_at-before k l v w [] less = rw less (rw (flipped k l Less less) refl)
+  with_at-before k l v w (e ∷ m) less = by_orders (byte_order k e.0) (byte_order l e.0) refl refl (with_at-before k l v w m less)
+    where
+      after : byte_order l k ≡ Greater
+      after = flipped k l Less less
+
+      by_orders : (o p : Ordering) → byte_order k e.0 ≡ o → byte_order l e.0 ≡ p → with_at k v (with_at l w m) ≡ with_at l w (with_at k v m) → with_at k v (match_ordering p ((l, w) ∷ e ∷ m) ((e.0, w) ∷ m) (e ∷ with_at l w m)) ≡ with_at l w (match_ordering o ((k, v) ∷ e ∷ m) ((e.0, v) ∷ m) (e ∷ with_at k v m))
+      by_orders Less Less o p rest = rw less (rw after (rw p refl))
+      by_orders Less Equal o p rest = rw o (rw after (rw p refl))
+      by_orders Less Greater o p rest = rw o (rw after (rw p refl))
+      by_orders Equal Greater o p rest = rw o (rw p refl)
+      by_orders Greater Greater o p rest = rw o (rw p (ap (λ l. e ∷ l) rest))
+      by_orders Equal Less o p rest = absurd (let less_too = nat_list_cmp_total.trans k l e.0 less p in cc)
+      by_orders Greater Less o p rest = absurd (let less_too = nat_list_cmp_total.trans k l e.0 less p in cc)
+      by_orders Equal Equal o p rest = absurd (let less_too = subst (λ x. byte_order k x ≡ Less) (exact_bytes l e.0 p) less in cc)
+      by_orders Greater Equal o p rest = absurd (let less_too = subst (λ x. byte_order k x ≡ Less) (exact_bytes l e.0 p) less in cc)
+
+  pub with_at-apart : (k l : List ℕ) (v w : V) (m : MapOf V) → bytes_eq k l ≡ false → with_at k v (with_at l w m) ≡ with_at l w (with_at k v m)
+  with_at-apart k l v w m apart = by_order (byte_order k l) refl
+    where
+      by_order : (o : Ordering) → byte_order k l ≡ o → with_at k v (with_at l w m) ≡ with_at l w (with_at k v m)
+      by_order Less is = with_at-before k l v w m is
+      by_order Equal is = absurd (let same = sym (is_eq-slice_cmp k l) ∙ ap is_eq is in cc)
+      by_order Greater is = sym (with_at-before l k w v m (flipped k l Greater is))
 
   -- A key that comes after all others is not there, and what is put there stands at the end.
   pub behind : (k : List ℕ) (v : V) (m : MapOf V) → AllByRecursion (λ x. IsBefore x k) (keys_of m) → with_at k v m ≡ m ++ (k, v) ∷ []

@@ -1,5 +1,5 @@
 -- What a node is that was told one thing after another.
-use Rattle.std.specs.Prelude.{ℕ, List, [], ◌∷◌}
+use Rattle.std.specs.Prelude.{ℕ, List, [], ◌∷◌, Option, Some, None}
 use Rattle.ld_model.specs.Tree.{Tree}
 use Rattle.node_model.specs.Maps.{MapOf}
 use Rattle.node_model.specs.NodeMap.{Node, told, type_told, with_entries, on_entries, with_type, with_index}
@@ -7,7 +7,7 @@ use Rattle.ld_tree.specs.View.{view}
 use Rattle.node_ops.specs.declared.node.Node as code
 use Rattle.node_ops.specs.declared.node.Told.{Told}
 use Rattle.node_ops.specs.declared.node.Telling.{Telling}
-use Rattle.node_ops.specs.declared.node.Telling.TheVariants.{Nothing, Property, Entry, TypeName, Index}
+use Rattle.node_ops.specs.declared.node.Telling.TheVariants.{Property, Entry, TypeName, Index}
 
 -- The entries of a property once further ones were told, one after another.
 abbrev pub all_told : List Tree → List Tree → List Tree
@@ -24,13 +24,21 @@ abbrev pub properties_told : List Told → MapOf (List Tree) → MapOf (List Tre
 properties_told [] ps = ps
 properties_told (t ∷ ts) ps = properties_told ts (with_entries t.property (all_told t.entries) ps)
 
+-- The index of a node once another one may have been told.
+abbrev pub index_told : Option (List ℕ) → Option (List ℕ) → Option (List ℕ)
+index_told (Some i) index = Some i
+index_told None index = index
+
+-- A node once what is in a log was told of it.
+abbrev pub node_told : code.Node → Node → Node
+node_told log n = record { types = types_told log.types.items n.types; index = index_told log.index n.index; properties = properties_told log.told.items n.properties }
+
 -- The node that a log stands for.
 abbrev pub node_view : code.Node → Node
 node_view n = record { types = types_told n.types.items []; index = n.index; properties = properties_told n.told.items [] }
 
 -- What is told of a node, as a change of it.
 abbrev pub change_of : Telling → Node → Node
-change_of Nothing n = n
 change_of (Property p) n = on_entries p.now (λ es. es) n
 change_of (Entry p e) n = on_entries p.now (told (view e)) n
 change_of (TypeName t) n = with_type t n

@@ -5,6 +5,7 @@ ghost use Rattle.node_ops.specs.Views.{state_view, Stops};
 
 use crate::finishing::graphs_of;
 use crate::nodes::Nodes;
+use crate::telling::note_row;
 use ld_tree::{Members, Text, Trees};
 use node_walk::walk_document;
 use std::alloc::{AllocError, Global};
@@ -94,7 +95,7 @@ fn finished(alloc: Global, nodes: Nodes) -> Result<(NodeMap, u64), MapStop>
         (Stops (outcome (state_view nodes).conflict (state_view nodes))) }
 {
     let Nodes {
-        graphs,
+        mut graphs,
         labels,
         conflict,
     } = nodes;
@@ -102,6 +103,7 @@ fn finished(alloc: Global, nodes: Nodes) -> Result<(NodeMap, u64), MapStop>
         return Err(MapStop::Conflict(conflict));
     }
     let issued = labels.into_count();
-    let graphs = graphs_of(alloc, graphs)?;
+    note_row(alloc, &mut graphs)?;
+    let graphs = graphs_of(alloc, graphs.noted)?;
     Ok((NodeMap { graphs }, issued))
 }

@@ -11,16 +11,15 @@ ghost use Rattle.node_ops.specs.Views.{state_view, conflict_in};
 use crate::generation::Conflict;
 use crate::labels::Labels;
 use crate::node::Telling;
-use crate::telling::{Graphs, ensure_graph, index_of, tell};
+use crate::telling::{Gathered, ensure_graph, ensure_node, index_of, nothing_gathered, tell};
 use ld_tree::{Members, Text, Tree, Trees};
 use node_walk::Gather;
 use std::alloc::{AllocError, Global};
-use std::collections::BTreeMap;
 
 /// What was gathered so far: the graphs, the labels, and the first conflict.
 #[derive(Drop)]
 pub(crate) struct Nodes {
-    pub(crate) graphs: Graphs,
+    pub(crate) graphs: Gathered,
     pub(crate) labels: Labels,
     pub(crate) conflict: Option<Conflict>,
 }
@@ -31,7 +30,7 @@ impl Nodes {
     pub(crate) fn new(alloc: Global, name: &Text) -> Result<Nodes, AllocError>
         ensures { IfOk result (λ n. state_view n ≡ record { graphs = (name.now, []) ∷ []; labels = no_labels; conflict = None }) }
     {
-        let mut graphs = BTreeMap::new(alloc);
+        let mut graphs = nothing_gathered(alloc);
         ensure_graph(alloc, &mut graphs, name)?;
         Ok(Nodes {
             graphs,
@@ -96,7 +95,7 @@ impl Gather for Nodes {
 
     fn node(&mut self, alloc: Global, graph: &Text, id: Option<Text>) -> Result<Text, AllocError> {
         let name = self.labels.id_or_new(alloc, id)?;
-        tell(alloc, &mut self.graphs, graph, &name, Telling::Nothing)?;
+        ensure_node(alloc, &mut self.graphs, graph, &name)?;
         Ok(name)
     }
 
@@ -203,7 +202,7 @@ impl Gather for Nodes {
         node: &Text,
         index: Text,
     ) -> Result<(), AllocError> {
-        match index_of(&self.graphs, graph, node)? {
+        match index_of(alloc, &mut self.graphs, graph, node)? {
             None => {
                 tell(alloc, &mut self.graphs, graph, node, Telling::Index(index))?;
                 Ok(())

@@ -4,7 +4,7 @@ use Rattle.node_model.specs.Maps.{with_at}
 use Rattle.node_model.specs.NodeMap.{graph_or_new}
 use Rattle.node_ops.specs.Views.{graph_view, graphs_view}
 use Rattle.node_ops.proofs.Maps.{changed-there, changed-missing}
-use Rattle.node_ops.proofs.telling.ensure_graph.Goals as goal
+use Rattle.node_ops.proofs.telling.note_graph.Goals as goal
 
 pub returns-in-Some : goal.returns-in-Some
 returns-in-Some c =

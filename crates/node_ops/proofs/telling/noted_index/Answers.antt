@@ -1,7 +1,7 @@
 use Rattle.std.proofs.Common.{Some, None, sym, ap, ◌∙◌}
 use Rattle.std.specs.Option.{option_copied}
 use Rattle.node_ops.proofs.Maps.{index-of, index-in}
-use Rattle.node_ops.proofs.telling.index_of.Goals as goal
+use Rattle.node_ops.proofs.telling.noted_index.Goals as goal
 
 pub returns-in_default : goal.returns-in_default
 returns-in_default c = sym (index-of c.args.graph.now c.args.id.now c.args.graphs.now.entries None (sym c.get.ensures.value ∙ ap option_copied c.in_default.is))
