@@ -3,9 +3,7 @@ ghost use Rattle.std.specs.Prelude.{◌≡◌, Ok, IfOk, MatchResult};
 ghost use Rattle.node_model.specs.Generating.{generate, outcome};
 ghost use Rattle.node_ops.specs.Views.{state_view, Stops};
 
-use crate::finishing::graphs_of;
 use crate::nodes::Nodes;
-use crate::telling::note_row;
 use ld_tree::{Members, Text, Trees};
 use node_walk::walk_document;
 use std::alloc::{AllocError, Global};
@@ -95,7 +93,7 @@ fn finished(alloc: Global, nodes: Nodes) -> Result<(NodeMap, u64), MapStop>
         (Stops (outcome (state_view nodes).conflict (state_view nodes))) }
 {
     let Nodes {
-        mut graphs,
+        graphs,
         labels,
         conflict,
     } = nodes;
@@ -103,7 +101,6 @@ fn finished(alloc: Global, nodes: Nodes) -> Result<(NodeMap, u64), MapStop>
         return Err(MapStop::Conflict(conflict));
     }
     let issued = labels.into_count();
-    note_row(alloc, &mut graphs)?;
-    let graphs = graphs_of(alloc, graphs.noted)?;
+    let graphs = graphs.into_members(alloc)?;
     Ok((NodeMap { graphs }, issued))
 }

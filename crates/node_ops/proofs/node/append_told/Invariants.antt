@@ -1,5 +1,0 @@
-use Rattle.std.proofs.Common.{◌≡◌, ◌++◌}
-use Rattle.node_ops.proofs.node.append_told.Given as goal
-
-abbrev pub invariant-loop-told : goal.invariant-loop-told
-invariant-loop-told l = l.log.items ++ l.told-iterator.rest.items ≡ l.initial.log.items ++ l.initial.told-iterator.rest.items
