@@ -1,0 +1,6 @@
+mod Elements
+mod Growing
+mod Covering
+mod Joining
+mod Finishing
+mod Ending
