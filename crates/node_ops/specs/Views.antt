@@ -1,26 +1,14 @@
--- What the maps of the code stand for.
-use Rattle.std.specs.Prelude.{ℕ, List, map, Option, Some, None, Result, Err, ◌≡◌, ⊤}
-use Rattle.std.specs.BTreeMap.{BTreeMap}
+-- What the state of the code stands for.
+use Rattle.std.specs.Prelude.{Option, Some, None, Result, Err, ◌≡◌, ⊤}
 use Rattle.node_model.specs.Labels.{Labels}
-use Rattle.node_model.specs.NodeMap.{Graph, Graphs, Conflict}
+use Rattle.node_model.specs.NodeMap.{Conflict}
 use Rattle.node_model.specs.Generating.{State, Generated}
-use Rattle.node_ops.specs.Log.{node_view}
-use Rattle.node_ops.specs.declared.node.Node.{Node}
+use Rattle.node_logs.specs.Views.{gathered_view}
 use Rattle.node_ops.specs.declared.labels.Labels as issuer
 use Rattle.node_ops.specs.declared.nodes.Nodes.{Nodes}
 use Rattle.node_ops.specs.declared.generation.Conflict as error
 use Rattle.node_ops.specs.declared.generation.MapStop.{MapStop}
 use Rattle.node_ops.specs.declared.generation.MapStop.TheVariants as stop
-
--- A map with each value seen as what it stands for.
-abbrev pub shown : {V W : Type 0} → (V → W) → List (List ℕ × V) → List (List ℕ × W)
-shown f es = map (λ e. (e.0, f e.1)) es
-
-abbrev pub graph_view : List (List ℕ × Node) → Graph
-graph_view es = shown node_view es
-
-abbrev pub graphs_view : List (List ℕ × BTreeMap (List ℕ) Node) → Graphs
-graphs_view es = shown (λ g. graph_view g.entries) es
 
 abbrev pub labels_view : issuer.Labels → Labels
 labels_view l = record { issued = l.issued; given = l.given.entries }
@@ -33,7 +21,7 @@ conflict_in (Some c) = Some (conflict_view c)
 conflict_in None = None
 
 abbrev pub state_view : Nodes → State
-state_view n = record { graphs = graphs_view n.graphs.entries; labels = labels_view n.labels; conflict = conflict_in n.conflict }
+state_view n = record { graphs = gathered_view n.graphs; labels = labels_view n.labels; conflict = conflict_in n.conflict }
 
 -- Why there is no node map: a conflict is the one that is due, and memory may be refused at any time.
 abbrev pub Stops : Result Generated Conflict → MapStop → Type 0

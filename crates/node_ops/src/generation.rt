@@ -3,7 +3,6 @@ ghost use Rattle.std.specs.Prelude.{◌≡◌, Ok, IfOk, MatchResult};
 ghost use Rattle.node_model.specs.Generating.{generate, outcome};
 ghost use Rattle.node_ops.specs.Views.{state_view, Stops};
 
-use crate::finishing::graphs_of;
 use crate::nodes::Nodes;
 use ld_tree::{Members, Text, Trees};
 use node_walk::walk_document;
@@ -102,6 +101,6 @@ fn finished(alloc: Global, nodes: Nodes) -> Result<(NodeMap, u64), MapStop>
         return Err(MapStop::Conflict(conflict));
     }
     let issued = labels.into_count();
-    let graphs = graphs_of(alloc, graphs)?;
+    let graphs = graphs.into_members(alloc)?;
     Ok((NodeMap { graphs }, issued))
 }

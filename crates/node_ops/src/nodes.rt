@@ -10,17 +10,15 @@ ghost use Rattle.node_ops.specs.Views.{state_view, conflict_in};
 
 use crate::generation::Conflict;
 use crate::labels::Labels;
-use crate::node::Telling;
-use crate::telling::{Graphs, ensure_graph, index_of, tell};
 use ld_tree::{Members, Text, Tree, Trees};
+use node_logs::{Gathered, Telling};
 use node_walk::Gather;
 use std::alloc::{AllocError, Global};
-use std::collections::BTreeMap;
 
 /// What was gathered so far: the graphs, the labels, and the first conflict.
 #[derive(Drop)]
 pub(crate) struct Nodes {
-    pub(crate) graphs: Graphs,
+    pub(crate) graphs: Gathered,
     pub(crate) labels: Labels,
     pub(crate) conflict: Option<Conflict>,
 }
@@ -31,8 +29,8 @@ impl Nodes {
     pub(crate) fn new(alloc: Global, name: &Text) -> Result<Nodes, AllocError>
         ensures { IfOk result (λ n. state_view n ≡ record { graphs = (name.now, []) ∷ []; labels = no_labels; conflict = None }) }
     {
-        let mut graphs = BTreeMap::new(alloc);
-        ensure_graph(alloc, &mut graphs, name)?;
+        let mut graphs = Gathered::new(alloc);
+        graphs.ensure_graph(alloc, name)?;
         Ok(Nodes {
             graphs,
             labels: Labels::new(alloc),
@@ -96,7 +94,7 @@ impl Gather for Nodes {
 
     fn node(&mut self, alloc: Global, graph: &Text, id: Option<Text>) -> Result<Text, AllocError> {
         let name = self.labels.id_or_new(alloc, id)?;
-        tell(alloc, &mut self.graphs, graph, &name, Telling::Nothing)?;
+        self.graphs.ensure_node(alloc, graph, &name)?;
         Ok(name)
     }
 
@@ -108,18 +106,13 @@ impl Gather for Nodes {
         text: Text,
     ) -> Result<Text, AllocError> {
         let name = self.labels.named(alloc, text)?;
-        tell(
-            alloc,
-            &mut self.graphs,
-            graph,
-            node,
-            Telling::Property(&name),
-        )?;
+        self.graphs
+            .tell(alloc, graph, node, Telling::Property(&name))?;
         Ok(name)
     }
 
     fn graph(&mut self, alloc: Global, graph: &Text) -> Result<(), AllocError> {
-        ensure_graph(alloc, &mut self.graphs, graph)?;
+        self.graphs.ensure_graph(alloc, graph)?;
         Ok(())
     }
 
@@ -131,13 +124,8 @@ impl Gather for Nodes {
         property: &Text,
         value: Tree,
     ) -> Result<(), AllocError> {
-        tell(
-            alloc,
-            &mut self.graphs,
-            graph,
-            node,
-            Telling::Entry(property, value),
-        )?;
+        self.graphs
+            .tell(alloc, graph, node, Telling::Entry(property, value))?;
         Ok(())
     }
 
@@ -150,13 +138,8 @@ impl Gather for Nodes {
         target: &Text,
     ) -> Result<(), AllocError> {
         let entry = reference(alloc, target)?;
-        tell(
-            alloc,
-            &mut self.graphs,
-            graph,
-            node,
-            Telling::Entry(property, entry),
-        )?;
+        self.graphs
+            .tell(alloc, graph, node, Telling::Entry(property, entry))?;
         Ok(())
     }
 
@@ -169,13 +152,8 @@ impl Gather for Nodes {
         list: Trees,
     ) -> Result<(), AllocError> {
         let entry = list_object(alloc, list)?;
-        tell(
-            alloc,
-            &mut self.graphs,
-            graph,
-            node,
-            Telling::Entry(property, entry),
-        )?;
+        self.graphs
+            .tell(alloc, graph, node, Telling::Entry(property, entry))?;
         Ok(())
     }
 
@@ -186,13 +164,8 @@ impl Gather for Nodes {
         node: &Text,
         type_name: Text,
     ) -> Result<(), AllocError> {
-        tell(
-            alloc,
-            &mut self.graphs,
-            graph,
-            node,
-            Telling::TypeName(type_name),
-        )?;
+        self.graphs
+            .tell(alloc, graph, node, Telling::TypeName(type_name))?;
         Ok(())
     }
 
@@ -203,9 +176,9 @@ impl Gather for Nodes {
         node: &Text,
         index: Text,
     ) -> Result<(), AllocError> {
-        match index_of(&self.graphs, graph, node)? {
+        match self.graphs.index_of(alloc, graph, node)? {
             None => {
-                tell(alloc, &mut self.graphs, graph, node, Telling::Index(index))?;
+                self.graphs.tell(alloc, graph, node, Telling::Index(index))?;
                 Ok(())
             }
             Some(first) => {

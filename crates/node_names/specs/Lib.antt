@@ -1,0 +1,4 @@
+pub mod View
+pub mod Codes
+pub mod Falls
+pub mod SameName

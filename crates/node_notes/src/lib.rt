@@ -1,0 +1,14 @@
+//! The operations of a chunk of an expanded document (JSON-LD 1.1 API, section 7.2), from that chunk alone.
+//!
+//! Node map generation issues labels as it goes, so each part of a document waits for those before it. What is noted here has names in
+//! place of labels: [`ops_of`] goes through a [`Chunk`] as generation would, and notes each step that would change the node map. So chunks
+//! may be taken in any order, and by several threads. [`shard_of`] divides what they say among shards, by nodes.
+#![tactic(auto)]
+
+mod chunk;
+mod notes;
+mod operations;
+mod shard;
+
+pub use chunk::{Chunk, ops_of, ops_of_items};
+pub use shard::shard_of;

@@ -1,5 +1,0 @@
-pub mod Maps
-pub mod GraphLemmas
-pub mod Logs
-pub mod Once
-pub mod Pairs

@@ -1,0 +1,4 @@
+pub mod Numbered
+pub mod Renamed
+pub mod Joined
+pub mod Own
