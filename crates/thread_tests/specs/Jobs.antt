@@ -1,5 +1,5 @@
 -- A job of which every so many-th piece fails.
-use Rattle.std.specs.Prelude.{◌≡◌, ℕ, ◌+◌, ◌%◌, Bool, false, ◌==◌, if◌then◌else◌}
+use Rattle.std.specs.Prelude.{ℕ, ◌%◌, Bool, false, ◌==◌, if◌then◌else◌}
 use Rattle.thread_tests.specs.declared.job.Span.{Span}
 
 abbrev pub span : ℕ → ℕ → Span

@@ -138,3 +138,26 @@ fn a_seat_that_is_not_whole_closes(rt: HostRuntime) -> Result<(), Fail> {
     assert!(rt; lists.len() == 1 && lists[0].len() == 2 && lists[0][1].first == 2);
     Ok(())
 }
+
+/// A seat enters what others left, one of which was let go. What that one entered stays.
+#[test]
+fn a_seat_enters_what_others_left(rt: HostRuntime) -> Result<(), Fail> {
+    let job = Spread {
+        pieces: 3,
+        shards: 1,
+    };
+    let (map, mut a) = ShardMap::open(rt.alloc(), &job)?;
+    let mut b = map.split(&mut a)?;
+    let mut c = map.split(&mut a)?;
+    let first = enter(&map, &mut b, 0, 1) == Came::Entered
+        && enter(&map, &mut c, 0, 2) == Came::Entered;
+    map.join(&mut a, b);
+    drop(c);
+    let again = enter(&map, &mut a, 0, 1) == Came::Filled
+        && enter(&map, &mut a, 0, 2) == Came::Filled;
+    let last = enter(&map, &mut a, 0, 0);
+    let lists = map.close(a);
+    assert!(rt; first && again && last == Came::Entered);
+    assert!(rt; lists.len() == 1 && lists.iter().all(has_three));
+    Ok(())
+}
