@@ -3,7 +3,7 @@ use Rattle.std.proofs.Common.{◌≡◌, List, [], ◌∷◌, ◌++◌, Bool, tr
 use Rattle.std.specs.List.{list_any}
 use Rattle.std.proofs.lemmas.List.{map-append}
 use Rattle.indexmap.specs.IndexSet.{insert_key}
-use Rattle.op_model.specs.Names.{Name, same_name}
+use Rattle.op_model.specs.Names.{Name}
 use Rattle.op_model.specs.Running.{with_name, used}
 use Rattle.node_names.specs.View.{name_view, names_view}
 use Rattle.node_names.specs.declared.name.Name as code
