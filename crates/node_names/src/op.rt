@@ -11,6 +11,7 @@ use std::alloc::{AllocError, Global};
 use std::marker::Model;
 
 /// What a step of node map generation does to the node map (JSON-LD 1.1 API, section 7.2), with names in place of labels.
+#[derive(Drop)]
 pub enum Op {
     /// A label of the document is needed: that of a type, or of a reverse property.
     UseLabel {
@@ -78,44 +79,6 @@ pub enum Op {
         /// The index.
         index: Text,
     },
-}
-
-// By hand, so that what is proved of a caller sees one drop, and not one for each kind.
-impl Drop for Op {
-    fn drop(self) {
-        match self {
-            Op::UseLabel { name: _ } => {}
-            Op::EnsureGraph { graph: _ } => {}
-            Op::EnsureNode { graph: _, node: _ } => {}
-            Op::EnsureProperty {
-                graph: _,
-                node: _,
-                property: _,
-            } => {}
-            Op::AddEntry {
-                graph: _,
-                node: _,
-                property: _,
-                entry: _,
-            } => {}
-            Op::AppendList {
-                graph: _,
-                node: _,
-                property: _,
-                list: _,
-            } => {}
-            Op::AddType {
-                graph: _,
-                node: _,
-                name: _,
-            } => {}
-            Op::SetIndex {
-                graph: _,
-                node: _,
-                index: _,
-            } => {}
-        }
-    }
 }
 
 impl Op {

@@ -1,0 +1,4 @@
+pub mod Logs
+pub mod Parts
+pub mod Sums
+pub mod Used

@@ -1,0 +1,66 @@
+-- What a log comes to once something further is said.
+use Rattle.std.proofs.Common.{◌≡◌, List, [], ◌∷◌, ◌++◌, false, cond, not, ◌||◌, Some, None, sym, ap, ap₂, ◌∙◌}
+use Rattle.std.proofs.lemmas.List.{map-append}
+use Rattle.op_model.specs.Names.{Name, same_name}
+use Rattle.op_model.specs.Ops.{Entry}
+use Rattle.sum_model.specs.Joins.{lists_joined, or_empty}
+use Rattle.sum_model.specs.Sums.{same_entry, properties_joined}
+use Rattle.sum_laws.specs.Said.{once}
+use Rattle.sum_laws.proofs.Once.{once-append}
+use Rattle.sum_laws.proofs.Same.{same_name-exact, same_name-refl, same_name-sym, same_entry-exact, same_entry-sym}
+use Rattle.sum_laws.proofs.Sums.{entries, properties}
+use Rattle.node_names.specs.View.{name_view, names_view, entry_view, entries_view}
+use Rattle.node_names.specs.declared.name.Name as code_name
+use Rattle.node_names.specs.declared.entry.Entry as code_entry
+use Rattle.subtree_summary.specs.declared.entry.Told.{Told}
+use Rattle.subtree_summary.specs.Log.{told_view, properties_view}
+
+pub types-append : (a b : List code_name.Name) → once same_name (names_view (a ++ b)) ≡ lists_joined same_name (once same_name (names_view a)) (once same_name (names_view b))
+types-append a b = ap (once same_name) (map-append name_view a b) ∙ once-append same_name same_name-exact same_name-sym (names_view a) (names_view b)
+
+entries-append : (a b : List code_entry.Entry) → once same_entry (entries_view (a ++ b)) ≡ lists_joined same_entry (once same_entry (entries_view a)) (once same_entry (entries_view b))
+entries-append a b = ap (once same_entry) (map-append entry_view a b) ∙ once-append same_entry same_entry-exact same_entry-sym (entries_view a) (entries_view b)
+
+pub properties-append : (a b : List Told) → properties_view (a ++ b) ≡ properties_joined (properties_view a) (properties_view b)
+properties-append [] b = sym (properties.left (properties_view b))
+properties-append (t ∷ ts) b =
+    ap (properties_joined (told_view t ∷ [])) (properties-append ts b)
+    ∙ sym (properties.assoc (told_view t ∷ []) (properties_view ts) (properties_view b))
+
+-- Entries of one property, and then others of it.
+same_property : (p : Name) (a b : List Entry) → properties_joined ((p, a) ∷ []) ((p, b) ∷ []) ≡ (p, lists_joined same_entry a b) ∷ []
+same_property p a b = ap (λ t. (p, lists_joined same_entry a (or_empty [] (cond t (Some b) None))) ∷ cond (not (t || false)) ((p, b) ∷ []) []) (same_name-refl p)
+
+-- What is told last goes behind the others.
+last : (ts : List Told) (t : Told) → properties_view (ts ++ t ∷ []) ≡ properties_joined (properties_view ts) (told_view t ∷ [])
+last ts t = properties-append ts (t ∷ []) ∙ ap (properties_joined (properties_view ts)) (properties.right (told_view t ∷ []))
+
+-- Further entries of the property with which a log ends.
+further : (ts : List Told) (t : Told) (p : Name) (es : List Entry) → name_view t.property ≡ p → properties_joined (properties_view (ts ++ t ∷ [])) ((p, es) ∷ []) ≡ properties_joined (properties_view ts) ((name_view t.property, lists_joined same_entry (once same_entry (entries_view t.entries.items)) es) ∷ [])
+further ts t p es is =
+    ap (λ q. properties_joined (properties_view (ts ++ t ∷ [])) ((q, es) ∷ [])) (sym is)
+    ∙ ap (λ ps. properties_joined ps ((name_view t.property, es) ∷ [])) (last ts t)
+    ∙ properties.assoc (properties_view ts) (told_view t ∷ []) ((name_view t.property, es) ∷ [])
+    ∙ ap (properties_joined (properties_view ts)) (same_property (name_view t.property) (once same_entry (entries_view t.entries.items)) es)
+
+-- A log that ends with this property already has it.
+pub ends_with : (ts : List Told) (t : Told) (p : Name) → name_view t.property ≡ p → properties_view (ts ++ t ∷ []) ≡ properties_joined (properties_view (ts ++ t ∷ [])) ((p, []) ∷ [])
+ends_with ts t p is =
+    sym (further ts t p [] is
+    ∙ ap (λ es. properties_joined (properties_view ts) ((name_view t.property, es) ∷ [])) (entries.right (once same_entry (entries_view t.entries.items)))
+    ∙ sym (last ts t))
+
+-- A property of which nothing was told, behind a log.
+pub nothing_behind : (ts : List Told) (t : Told) (p : Name) → name_view t.property ≡ p → t.entries.items ≡ [] → properties_view (ts ++ t ∷ []) ≡ properties_joined (properties_view ts) ((p, []) ∷ [])
+nothing_behind ts t p is none = last ts t ∙ ap₂ (λ q es. properties_joined (properties_view ts) ((q, once same_entry (entries_view es)) ∷ [])) is none
+
+-- A further entry of the property with which a log ends.
+pub entry_behind : (ts : List Told) (t u : Told) (p : Name) (e : code_entry.Entry) (old : List (Name × List Entry)) → name_view t.property ≡ p → u.property ≡ t.property → u.entries.items ≡ t.entries.items ++ e ∷ [] → properties_view (ts ++ t ∷ []) ≡ properties_joined old ((p, []) ∷ []) → properties_view (ts ++ u ∷ []) ≡ properties_joined old ((p, entry_view e ∷ []) ∷ [])
+entry_behind ts t u p e old is same more log =
+    last ts u
+    ∙ ap₂ (λ q es. properties_joined (properties_view ts) ((name_view q, once same_entry (entries_view es)) ∷ [])) same more
+    ∙ ap (λ es. properties_joined (properties_view ts) ((name_view t.property, es) ∷ [])) (entries-append t.entries.items (e ∷ []))
+    ∙ sym (further ts t p (entry_view e ∷ []) is)
+    ∙ ap (λ ps. properties_joined ps ((p, entry_view e ∷ []) ∷ [])) log
+    ∙ properties.assoc old ((p, []) ∷ []) ((p, entry_view e ∷ []) ∷ [])
+    ∙ ap (properties_joined old) (same_property p [] (entry_view e ∷ []))

@@ -1,0 +1,4 @@
+pub mod Log
+pub mod Parts
+pub mod Summing
+pub mod Uses

@@ -1,0 +1,252 @@
+// What is said of a node, as a log.
+ghost use Rattle.std.specs.Prelude.{◌≡◌, [], ◌∷◌, ◌++◌, None, OnOk, IfOk, IsOk};
+ghost use Rattle.node_names.specs.View.{name_view, entry_view};
+ghost use Rattle.sum_model.specs.Sums as model;
+ghost use Rattle.sum_model.specs.Sums.{bare, indexes_joined, part_entries_joined, properties_joined};
+ghost use Rattle.subtree_summary.specs.Log.{second_view, index_at_view, index_view, joined_at, properties_view, part_entry_view, said, HasRoom};
+
+use ld_tree::Text;
+use node_names::{Entry, Name};
+use std::alloc::{AllocError, Global};
+
+/// An index of a node that differs from the first one.
+#[derive(Drop)]
+pub struct SecondIndex {
+    /// The chunk of the operation that sets it.
+    pub chunk: u32,
+    /// The number of that operation, from 0, among all of the chunk.
+    pub op: u64,
+    /// The index.
+    pub index: Text,
+}
+
+/// The first index of a node.
+#[derive(Drop)]
+pub struct IndexAt {
+    /// The chunk of the operation that sets it.
+    pub chunk: u32,
+    /// The number of that operation, from 0, among all of the chunk.
+    pub op: u64,
+    /// The index.
+    pub index: Text,
+    /// The first later index that differs.
+    pub conflict: Option<SecondIndex>,
+}
+
+/// What was said of a property without a break, in the order in which it was said.
+#[derive(Drop)]
+pub struct Told {
+    /// The property.
+    pub property: Name,
+    /// The entries.
+    pub entries: Vec<Entry>,
+}
+
+/// What was said of a node. A type or an entry may be there twice, and a property wherever it was told of.
+#[derive(Drop)]
+pub struct PartEntry {
+    /// The types, in the order in which they were said.
+    pub types: Vec<Name>,
+    /// The first index, and whether another one came.
+    pub index: Option<IndexAt>,
+    /// What was said of properties, in the order in which it was said.
+    pub told: Vec<Told>,
+}
+
+/// What an operation says of a node.
+#[derive(Drop)]
+pub(crate) enum Telling {
+    /// That it is there.
+    Nothing,
+    /// That it has this property.
+    Property(Name),
+    /// An entry of a property.
+    Entry(Name, Entry),
+    /// A type.
+    TypeName(Name),
+    /// Its index.
+    Index(IndexAt),
+}
+
+impl PartEntry {
+    /// A node of which nothing was said but that it is there.
+    pub fn new(alloc: Global) -> PartEntry
+        ensures { part_entry_view result ≡ bare }
+    {
+        PartEntry {
+            types: Vec::new(alloc),
+            index: None,
+            told: Vec::new(alloc),
+        }
+    }
+
+    /// Notes what is said of the node.
+    pub(crate) fn tell(&mut self, alloc: Global, telling: Telling) -> Result<(), AllocError>
+        ensures { OnOk result (part_entry_view self.new ≡ part_entries_joined (part_entry_view self.old) (said telling)) }
+    {
+        match telling {
+            Telling::Nothing => Ok(()),
+            Telling::Property(property) => {
+                tell_property(alloc, &mut self.told, property)?;
+                Ok(())
+            }
+            Telling::Entry(property, entry) => {
+                tell_entry(alloc, &mut self.told, property, entry)?;
+                Ok(())
+            }
+            Telling::TypeName(name) => {
+                self.types.push(name)?;
+                Ok(())
+            }
+            Telling::Index(index) => {
+                self.index = joined(self.index.take(), Some(index));
+                Ok(())
+            }
+        }
+    }
+
+    /// Puts what a later part has of the node behind this, in a time linear in the later one. It takes no memory where there is room.
+    ///
+    /// # Errors
+    ///
+    /// Only where memory is refused; then some of it may be lost.
+    pub fn append(&mut self, later: PartEntry) -> Result<(), AllocError>
+        ensures joined { OnOk result (part_entry_view self.new ≡ part_entries_joined (part_entry_view self.old) (part_entry_view later)) }
+        ensures succeeds { HasRoom self.old later → IsOk result }
+    {
+        let PartEntry {
+            mut types,
+            index,
+            mut told,
+        } = later;
+        self.types.append(&mut types)?;
+        self.told.append(&mut told)?;
+        self.index = joined(self.index.take(), index);
+        Ok(())
+    }
+
+    /// Makes room for what a later part has of the node. Whether memory is refused or not, what was said stays.
+    pub fn make_room(&mut self, later: &PartEntry) -> Result<(), AllocError>
+        ensures same { part_entry_view self.new ≡ part_entry_view self.old }
+        ensures room { OnOk result (HasRoom self.new later.now) }
+    {
+        self.types.reserve(later.types.len())?;
+        self.told.reserve(later.told.len())?;
+        Ok(())
+    }
+}
+
+fn tell_property(alloc: Global, log: &mut Vec<Told>, property: Name) -> Result<(), AllocError>
+    ensures { OnOk result (properties_view log.new.items ≡ properties_joined (properties_view log.old.items) ((name_view property, []) ∷ [])) }
+{
+    let last = last_told(alloc, log, property)?;
+    log.push(last)?;
+    Ok(())
+}
+
+fn tell_entry(
+    alloc: Global,
+    log: &mut Vec<Told>,
+    property: Name,
+    entry: Entry,
+) -> Result<(), AllocError>
+    ensures { OnOk result (properties_view log.new.items ≡ properties_joined (properties_view log.old.items) ((name_view property, entry_view entry ∷ []) ∷ [])) }
+{
+    let mut last = last_told(alloc, log, property)?;
+    last.entries.push(entry)?;
+    log.push(last)?;
+    Ok(())
+}
+
+/// What was said last, taken from the end of the log, where it was said of this property; else nothing, of this property.
+fn last_told(alloc: Global, log: &mut Vec<Told>, property: Name) -> Result<Told, AllocError>
+    ensures property { IfOk result (λ t. name_view t.property ≡ name_view property) }
+    ensures log { IfOk result (λ t. properties_view (log.new.items ++ t ∷ []) ≡ properties_joined (properties_view log.old.items) ((name_view property, []) ∷ [])) }
+{
+    let Some(last) = log.pop() else {
+        return Ok(nothing_told(alloc, property));
+    };
+    if last.property == property {
+        return Ok(last);
+    }
+    log.push(last)?;
+    Ok(nothing_told(alloc, property))
+}
+
+fn nothing_told(alloc: Global, property: Name) -> Told
+    ensures property { result.property ≡ property }
+    ensures entries { result.entries.items ≡ [] }
+{
+    Told {
+        property,
+        entries: Vec::new(alloc),
+    }
+}
+
+/// The index of a node, where a part has it and then a later one has: that of the earlier part stays.
+fn joined(earlier: Option<IndexAt>, later: Option<IndexAt>) -> Option<IndexAt>
+    ensures { index_view result ≡ indexes_joined (index_view earlier) (index_view later) }
+{
+    let Some(earlier) = earlier else {
+        return later;
+    };
+    let Some(later) = later else {
+        return Some(earlier);
+    };
+    Some(earlier.followed_by(later))
+}
+
+impl IndexAt {
+    /// This index, once a later one is set.
+    fn followed_by(self, later: IndexAt) -> IndexAt
+        ensures { index_at_view result ≡ joined_at (index_at_view self) (index_at_view later) }
+    {
+        let IndexAt {
+            chunk,
+            op,
+            index,
+            conflict,
+        } = self;
+        let conflict = first_different(&index, conflict, later);
+        IndexAt {
+            chunk,
+            op,
+            index,
+            conflict,
+        }
+    }
+}
+
+/// The first index that differs from this one, where there was one or none before the later index came.
+fn first_different(
+    index: &Text,
+    conflict: Option<SecondIndex>,
+    later: IndexAt,
+) -> Option<SecondIndex>
+    ensures { second_view result ≡ model.conflict_with index.now (second_view conflict) (index_at_view later) }
+{
+    match conflict {
+        Some(first) => Some(first),
+        None => different(index, later),
+    }
+}
+
+/// The later index, where it differs from this one; else the one that differs from both.
+fn different(index: &Text, later: IndexAt) -> Option<SecondIndex>
+    ensures { second_view result ≡ model.conflict_with index.now None (index_at_view later) }
+{
+    let IndexAt {
+        chunk,
+        op,
+        index: second,
+        conflict,
+    } = later;
+    if index.as_str() == second.as_str() {
+        return conflict;
+    }
+    Some(SecondIndex {
+        chunk,
+        op,
+        index: second,
+    })
+}

@@ -1,0 +1,140 @@
+// The names that need labels, in the order of first use.
+ghost use Rattle.std.specs.Prelude.{◌≡◌, [], OnOk};
+ghost use Rattle.op_model.specs.Names.{blank};
+ghost use Rattle.op_model.specs.Running.{with_name, used, uses, uses_of_entry};
+ghost use Rattle.node_names.specs.View.{name_view, entry_view, op_view};
+ghost use Rattle.subtree_summary.specs.Uses.{uses_view, uses_of_list};
+
+use indexmap::IndexSet;
+use node_names::{Entries, Entry, Name, Op};
+use std::alloc::{AllocError, Global};
+
+/// Names that need labels, each once, in the order of first use.
+#[derive(Drop)]
+pub struct LabelUses {
+    /// The names.
+    pub names: IndexSet<Name>,
+}
+
+impl LabelUses {
+    /// No name.
+    pub fn new(alloc: Global) -> LabelUses
+        ensures { uses_view result ≡ [] }
+    {
+        LabelUses {
+            names: IndexSet::new(alloc),
+        }
+    }
+
+    /// Notes the names that an operation uses, in the order of its fields.
+    pub(crate) fn note(&mut self, op: &Op) -> Result<(), AllocError>
+        ensures { OnOk result (uses_view self.new ≡ used (uses_view self.old) (uses (op_view op.now))) }
+    {
+        match op {
+            Op::UseLabel { name } | Op::EnsureGraph { graph: name } => {
+                self.note_name(name)?;
+                Ok(())
+            }
+            Op::EnsureNode { graph, node }
+            | Op::SetIndex {
+                graph,
+                node,
+                index: _,
+            } => {
+                self.note_name(graph)?;
+                self.note_name(node)?;
+                Ok(())
+            }
+            Op::EnsureProperty {
+                graph,
+                node,
+                property: third,
+            }
+            | Op::AddType {
+                graph,
+                node,
+                name: third,
+            } => {
+                self.note_names(graph, node, third)?;
+                Ok(())
+            }
+            Op::AddEntry {
+                graph,
+                node,
+                property,
+                entry,
+            } => {
+                self.note_names(graph, node, property)?;
+                note_entry(self, entry)?;
+                Ok(())
+            }
+            Op::AppendList {
+                graph,
+                node,
+                property,
+                list,
+            } => {
+                self.note_names(graph, node, property)?;
+                note_entries(self, list)?;
+                Ok(())
+            }
+        }
+    }
+
+    fn note_names(&mut self, graph: &Name, node: &Name, third: &Name) -> Result<(), AllocError>
+        ensures { OnOk result (uses_view self.new ≡ used (used (used (uses_view self.old) (blank (name_view graph.now))) (blank (name_view node.now))) (blank (name_view third.now))) }
+    {
+        self.note_name(graph)?;
+        self.note_name(node)?;
+        self.note_name(third)?;
+        Ok(())
+    }
+
+    fn note_name(&mut self, name: &Name) -> Result<(), AllocError>
+        ensures { OnOk result (uses_view self.new ≡ used (uses_view self.old) (blank (name_view name.now))) }
+    {
+        if !name.is_blank() {
+            return Ok(());
+        }
+        self.note_blank(name)?;
+        Ok(())
+    }
+
+    fn note_blank(&mut self, name: &Name) -> Result<(), AllocError>
+        ensures { OnOk result (uses_view self.new ≡ with_name (uses_view self.old) (name_view name.now)) }
+    {
+        if self.names.contains(name) {
+            return Ok(());
+        }
+        self.names.insert(name.copy()?)?;
+        Ok(())
+    }
+}
+
+/// Notes the names that an entry uses, those of a list in the order of its entries.
+#[cycle(note)]
+fn note_entry(uses: &mut LabelUses, entry: &Entry) -> Result<(), AllocError>
+    ensures { OnOk result (uses_view uses.new ≡ used (uses_view uses.old) (uses_of_entry (entry_view entry.now))) }
+{
+    match entry {
+        Entry::Value(_) => Ok(()),
+        Entry::Reference(name) => {
+            uses.note_name(name)?;
+            Ok(())
+        }
+        Entry::List(entries) => {
+            note_entries(uses, entries)?;
+            Ok(())
+        }
+    }
+}
+
+#[cycle(note)]
+fn note_entries(uses: &mut LabelUses, entries: &Entries) -> Result<(), AllocError>
+    ensures { OnOk result (uses_view uses.new ≡ used (uses_view uses.old) (uses_of_list entries.now)) }
+{
+    for entry in entries {
+        note_entry(uses, entry)?;
+    }
+    Ok(())
+}
