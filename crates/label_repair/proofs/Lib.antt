@@ -1,1 +1,4 @@
 pub mod Names
+pub mod Kept
+pub mod Renamed
+pub mod OwnConflicts

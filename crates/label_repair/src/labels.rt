@@ -1,6 +1,6 @@
 // The names that have labels.
 ghost use Rattle.std.specs.Prelude.{◌≡◌, ◌≤◌, ◌^◌, [], length, OnOk, OnErr};
-ghost use Rattle.op_model.specs.Running.{used, with_name};
+ghost use Rattle.op_model.specs.Running.{used, with_name, place_of};
 ghost use Rattle.node_names.specs.View.{name_view, names_view};
 ghost use Rattle.shard_model.specs.Numbered.{number_of};
 
@@ -54,6 +54,16 @@ impl Labels {
         match self.names.get_index_of(name) {
             Some(number) => Some(number as u64),
             None => None,
+        }
+    }
+
+    /// The number in the label of a name, counted from 0; the count of labels where it has none.
+    pub(crate) fn place(&self, name: &Name) -> u64
+        ensures { result ≡ place_of (name_view name.now) self.now }
+    {
+        match self.names.get_index_of(name) {
+            Some(number) => number as u64,
+            None => self.names.len() as u64,
         }
     }
 

@@ -3,6 +3,11 @@
 //! Contracts see [`Labels`] as the names that have labels, in the order of first use; the number of a name is its place among them.
 #![tactic(auto)]
 
+mod joining;
 mod labels;
+mod renaming;
+mod shard;
 
+pub use joining::join_shards;
 pub use labels::Labels;
+pub use shard::{NodeShard, PlacedConflict};
