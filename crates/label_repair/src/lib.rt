@@ -4,5 +4,7 @@
 #![tactic(auto)]
 
 mod labels;
+mod numbering;
 
 pub use labels::Labels;
+pub use numbering::number_labels;
