@@ -2,3 +2,4 @@ pub mod Names
 pub mod Kept
 pub mod Renamed
 pub mod OwnConflicts
+pub mod Parts
