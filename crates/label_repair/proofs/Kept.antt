@@ -33,30 +33,30 @@ module _ {X : Type 0} (P : X → Type 0) where
   module _ (same : X → X → Bool) (exact : IsExact same) where
     at_found : (x : X) (xs : List X) → list_any (same x) xs ≡ true → AllByRecursion P xs → P x
     at_found x [] found all = absurd (cc)
-    at_found x (y ∷ xs) found all = by_test (same x y) refl found
+    at_found x (y ∷ xs) found all = by_test (same x y) refl found (λ rest. at_found x xs rest all.1)
       where
-        by_test : (t : Bool) → same x y ≡ t → (t || list_any (same x) xs) ≡ true → P x
-        by_test true is found = subst P (sym (exact x y is)) all.0
-        by_test false is found = at_found x xs found all.1
+        by_test : (t : Bool) → same x y ≡ t → (t || list_any (same x) xs) ≡ true → (list_any (same x) xs ≡ true → P x) → P x
+        by_test true is found later = subst P (sym (exact x y is)) all.0
+        by_test false is found later = later found
 
     new_back : (held b : List X) → AllByRecursion P held → AllByRecursion P (filter (is_new same held) b) → AllByRecursion P b
     new_back held [] all rest = tt
-    new_back held (x ∷ b) all rest = by_test (list_any (same x) held) refl rest
+    new_back held (x ∷ b) all rest = by_test (list_any (same x) held) refl rest (new_back held b all)
       where
-        by_test : (t : Bool) → list_any (same x) held ≡ t → AllByRecursion P (cond (not t) (x ∷ filter (is_new same held) b) (filter (is_new same held) b)) → AllByRecursion P (x ∷ b)
-        by_test true is rest = (at_found x held is all, new_back held b all rest)
-        by_test false is rest = (rest.0, new_back held b all rest.1)
+        by_test : (t : Bool) → list_any (same x) held ≡ t → AllByRecursion P (cond (not t) (x ∷ filter (is_new same held) b) (filter (is_new same held) b)) → (AllByRecursion P (filter (is_new same held) b) → AllByRecursion P b) → AllByRecursion P (x ∷ b)
+        by_test true is rest later = (at_found x held is all, later rest)
+        by_test false is rest later = (rest.0, later rest.1)
 
     pub joined_back : (a b : List X) → AllByRecursion P (lists_joined same a b) → AllByRecursion P b
     joined_back a b all = new_back a b (all-front a (filter (is_new same a) b) all) (all-back a (filter (is_new same a) b) all)
 
     others_back : (x : X) (ys : List X) → P x → AllByRecursion P (filter (λ y. not (same x y)) ys) → AllByRecursion P ys
     others_back x [] first rest = tt
-    others_back x (y ∷ ys) first rest = by_test (same x y) refl rest
+    others_back x (y ∷ ys) first rest = by_test (same x y) refl rest (others_back x ys first)
       where
-        by_test : (t : Bool) → same x y ≡ t → AllByRecursion P (cond (not t) (y ∷ filter (λ y. not (same x y)) ys) (filter (λ y. not (same x y)) ys)) → AllByRecursion P (y ∷ ys)
-        by_test true is rest = (subst P (exact x y is) first, others_back x ys first rest)
-        by_test false is rest = (rest.0, others_back x ys first rest.1)
+        by_test : (t : Bool) → same x y ≡ t → AllByRecursion P (cond (not t) (y ∷ filter (λ y. not (same x y)) ys) (filter (λ y. not (same x y)) ys)) → (AllByRecursion P (filter (λ y. not (same x y)) ys) → AllByRecursion P ys) → AllByRecursion P (y ∷ ys)
+        by_test true is rest later = (subst P (exact x y is) first, later rest)
+        by_test false is rest later = (rest.0, later rest.1)
 
     pub once_back : (xs : List X) → AllByRecursion P (once same xs) → AllByRecursion P xs
     once_back [] all = tt
@@ -86,14 +86,14 @@ module _ (names : List Name) where
 
     in_values : (ps : List (Name × List Entry)) → list_any (same_name p) (keys_of ps) ≡ true → AllByRecursion Own (values_joined same_name [] (lists_joined same_entry) ps more) → HasOwn names p × AllByRecursion IsOwn es
     in_values [] found all = absurd (cc)
-    in_values (f ∷ ps) found all = by_test (same_name p f.0) refl found
+    in_values (f ∷ ps) found all = by_test (same_name p f.0) refl found (λ rest. in_values ps rest all.1)
       where
-        by_test : (t : Bool) → same_name p f.0 ≡ t → (t || list_any (same_name p) (keys_of ps)) ≡ true → HasOwn names p × AllByRecursion IsOwn es
-        by_test true is found =
+        by_test : (t : Bool) → same_name p f.0 ≡ t → (t || list_any (same_name p) (keys_of ps)) ≡ true → (list_any (same_name p) (keys_of ps) ≡ true → HasOwn names p × AllByRecursion IsOwn es) → HasOwn names p × AllByRecursion IsOwn es
+        by_test true is found later =
             let here : AllByRecursion IsOwn (lists_joined same_entry f.1 es) =
-                subst (λ t. AllByRecursion IsOwn (lists_joined same_entry f.1 (or_empty [] (cond t (Some es) None)))) (same_name-sym f.0 p ∙ is) all.0.entries in
+            subst (λ t. AllByRecursion IsOwn (lists_joined same_entry f.1 (or_empty [] (cond t (Some es) None)))) (same_name-sym f.0 p ∙ is) all.0.entries in
             (subst (HasOwn names) (sym (same_name-exact p f.0 is)) all.0.name, joined_back IsOwn same_entry same_entry-exact f.1 es here)
-        by_test false is found = in_values ps found all.1
+        by_test false is found later = later found
 
     pub property_back : (ps : List (Name × List Entry)) → AllByRecursion Own (properties_joined ps more) → HasOwn names p × AllByRecursion IsOwn es
     property_back ps all = by_test (list_any (same_name p) (keys_of ps)) refl (all-back Own values (cond (is_new same_name (keys_of ps) p) more []) all)

@@ -3,3 +3,4 @@ pub mod Kept
 pub mod Renamed
 pub mod OwnConflicts
 pub mod Parts
+pub mod Lists

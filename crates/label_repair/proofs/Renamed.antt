@@ -71,7 +71,7 @@ module _ (names : List Name) (few : length names ≤ 2 ^ 64) where
   properties_renamed (t ∷ ts) before own =
       let whole : AreOwn ((before ++ t ∷ []) ++ ts) = subst AreOwn (sym (append_assoc before (t ∷ []) ts)) own in
       let front : AreOwn (before ++ t ∷ []) =
-          properties_front names (properties_view (before ++ t ∷ [])) (properties_view ts) (subst (AllByRecursion (PropertyHasOwn names)) (properties-append (before ++ t ∷ []) ts) whole) in
+      properties_front names (properties_view (before ++ t ∷ [])) (properties_view ts) (subst (AllByRecursion (PropertyHasOwn names)) (properties-append (before ++ t ∷ []) ts) whole) in
       ap (properties_told (each (told_renamed names) ts)) (property_renamed before t front)
       ∙ properties_renamed ts (before ++ t ∷ []) whole
       ∙ ap put (append_assoc before (t ∷ []) ts)
@@ -83,9 +83,9 @@ module _ (names : List Name) (few : length names ≤ 2 ^ 64) where
       → node_view n ≡ node_renamed names (part_entry_view e)
   node_is_renamed e n own types-are index-is told-is = λ i. record {
     types =
-      (ap (λ ts. types_told ts []) types-are
-      ∙ types_renamed (names_view e.types.items) [] tt (once_back (HasOwn names) same_name same_name-exact (names_view e.types.items) own.types)
-      ∙ ap (each (label_in names)) (names_monoid.left (once same_name (names_view e.types.items)))) i;
+        (ap (λ ts. types_told ts []) types-are
+        ∙ types_renamed (names_view e.types.items) [] tt (once_back (HasOwn names) same_name same_name-exact (names_view e.types.items) own.types)
+        ∙ ap (each (label_in names)) (names_monoid.left (once same_name (names_view e.types.items)))) i;
     index = index-is i;
     properties = (ap (λ ts. properties_told ts []) told-is ∙ properties_renamed e.told.items [] own.properties) i;
   }
@@ -96,7 +96,7 @@ module _ (names : List Name) (few : length names ≤ 2 ^ 64) where
   said_own (t ∷ ts) before own =
       let whole : AreOwn ((before ++ t ∷ []) ++ ts) = subst AreOwn (sym (append_assoc before (t ∷ []) ts)) own in
       let front : AreOwn (before ++ t ∷ []) =
-          properties_front names (properties_view (before ++ t ∷ [])) (properties_view ts) (subst (AllByRecursion (PropertyHasOwn names)) (properties-append (before ++ t ∷ []) ts) whole) in
+      properties_front names (properties_view (before ++ t ∷ [])) (properties_view ts) (subst (AllByRecursion (PropertyHasOwn names)) (properties-append (before ++ t ∷ []) ts) whole) in
       let at_t = property_back names (name_view t.property) (once same_entry (entries_view t.entries.items)) (properties_view before) (subst (AllByRecursion (PropertyHasOwn names)) (last before t) front) in
       ((at_t.0, once_back (EntryHasOwn names) same_entry same_entry-exact (entries_view t.entries.items) at_t.1), said_own ts (before ++ t ∷ []) whole)
 

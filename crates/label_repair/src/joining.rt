@@ -93,12 +93,7 @@ fn add_graphs(alloc: Global, graphs: &mut Graphs, more: Graphs) -> Result<(), Al
     Ok(())
 }
 
-fn add_graph(
-    alloc: Global,
-    graphs: &mut Graphs,
-    name: Text,
-    more: Graph,
-) -> Result<(), AllocError>
+fn add_graph(alloc: Global, graphs: &mut Graphs, name: Text, more: Graph) -> Result<(), AllocError>
     ensures { OnOk result (graphs_view graphs.new.entries ≡ on_graph name (nodes_added (graph_view more.entries)) (graphs_view graphs.old.entries)) }
 {
     if let Some(nodes) = graphs.get_mut(&name) {

@@ -57,6 +57,13 @@ impl Labels {
         }
     }
 
+    /// A set in memory has no more labels than a `u64` can number. It does nothing.
+    pub(crate) fn are_few(&self)
+        ensures { length self.now ≤ 2 ^ 64 }
+    {
+        let _ = self.count();
+    }
+
     /// The number in the label of a name, counted from 0; the count of labels where it has none.
     pub(crate) fn place(&self, name: &Name) -> u64
         ensures { result ≡ place_of (name_view name.now) self.now }

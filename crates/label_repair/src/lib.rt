@@ -9,12 +9,12 @@
 mod joining;
 mod labels;
 mod numbering;
-mod rename;
 mod renaming;
+mod runs;
 mod shard;
 
 pub use joining::join_shards;
 pub use labels::Labels;
 pub use numbering::number_labels;
-pub use rename::rename;
+pub use runs::rename;
 pub use shard::{NodeShard, PlacedConflict};

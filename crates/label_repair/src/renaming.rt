@@ -1,15 +1,14 @@
 // A part of a sum, with labels in place of names.
-ghost use Rattle.std.specs.Prelude.{◌≡◌, [], map as each, option_map, IfOk, OnOk};
+ghost use Rattle.std.specs.Prelude.{◌≡◌, ◌≤◌, ◌^◌, length, map as each, option_map, IfOk};
 ghost use Rattle.std.specs.List.{AllByRecursion};
-ghost use Rattle.ld_model.specs.Tree.{trees_of};
 ghost use Rattle.ld_tree.specs.View.{view};
 ghost use Rattle.node_logs.specs.Log.{node_view};
 ghost use Rattle.op_laws.specs.Own.{HasOwn, EntryHasOwn};
 ghost use Rattle.op_model.specs.Running.{label_in, entry_in};
 ghost use Rattle.node_names.specs.View.{name_view, names_view, entry_view, entries_view};
-ghost use Rattle.shard_model.specs.Own.{PropertyHasOwn, PartHasOwn};
+ghost use Rattle.shard_model.specs.Own.{PartHasOwn};
 ghost use Rattle.shard_model.specs.Renamed.{node_renamed};
-ghost use Rattle.subtree_summary.specs.Log.{index_view, properties_view, part_entry_view};
+ghost use Rattle.subtree_summary.specs.Log.{index_view, part_entry_view};
 ghost use Rattle.label_repair.specs.Renaming.{IsOwn, told_renamed};
 
 use crate::labels::Labels;
@@ -32,12 +31,9 @@ pub(crate) fn label(alloc: Global, labels: &Labels, name: &Name) -> Result<Text,
 }
 
 /// What was said of a node, under labels.
-pub(crate) fn node_of(
-    alloc: Global,
-    labels: &Labels,
-    entry: PartEntry,
-) -> Result<Node, AllocError>
-    requires { PartHasOwn labels.now (part_entry_view entry) }
+pub(crate) fn node_of(alloc: Global, labels: &Labels, entry: PartEntry) -> Result<Node, AllocError>
+    requires own { PartHasOwn labels.now (part_entry_view entry) }
+    requires few { length labels.now ≤ 2 ^ 64 }
     ensures { IfOk result (λ n. node_view n ≡ node_renamed labels.now (part_entry_view entry)) }
 {
     let PartEntry { types, index, told } = entry;

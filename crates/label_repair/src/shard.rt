@@ -1,5 +1,5 @@
 // Shards of a node map.
-ghost use Rattle.std.specs.Prelude.{◌≡◌, map as each, IfOk, OnOk};
+ghost use Rattle.std.specs.Prelude.{◌≡◌, ◌≤◌, ◌^◌, length, IfOk, OnOk};
 ghost use Rattle.std.specs.List.{AllByRecursion};
 ghost use Rattle.op_laws.specs.Own.{HasOwn};
 ghost use Rattle.op_model.specs.Running.{label_in};
@@ -50,6 +50,7 @@ pub(crate) fn graphs_of_part(
     requires { SumHasOwn labels.now (part_view part) }
     ensures { IfOk result (λ g. graphs_view g.entries ≡ renamed labels.now (part_view part)) }
 {
+    labels.are_few();
     let Part { graphs, nodes } = part;
     let mut made = BTreeMap::new(alloc);
     make_graphs(alloc, &mut made, labels, graphs)?;
@@ -92,7 +93,8 @@ fn make_nodes(
     labels: &Labels,
     nodes: IndexMap<NodeKey, PartEntry>,
 ) -> Result<(), AllocError>
-    requires { AllByRecursion (NodeHasOwn labels.now) (nodes_view nodes.entries) }
+    requires own { AllByRecursion (NodeHasOwn labels.now) (nodes_view nodes.entries) }
+    requires few { length labels.now ≤ 2 ^ 64 }
     ensures { OnOk result (graphs_view made.new.entries ≡ nodes_put labels.now (nodes_view nodes.entries) (graphs_view made.old.entries)) }
 {
     for (key, entry) in nodes {
@@ -108,7 +110,8 @@ fn make_node(
     key: NodeKey,
     entry: PartEntry,
 ) -> Result<(), AllocError>
-    requires { NodeHasOwn labels.now (key_view key, part_entry_view entry) }
+    requires own { NodeHasOwn labels.now (key_view key, part_entry_view entry) }
+    requires few { length labels.now ≤ 2 ^ 64 }
     ensures { OnOk result (graphs_view made.new.entries ≡ on_node (label_in labels.now (name_view key.graph)) (label_in labels.now (name_view key.node)) (λ n. node_renamed labels.now (part_entry_view entry)) (graphs_view made.old.entries)) }
 {
     let NodeKey { graph, node } = key;

@@ -15,7 +15,7 @@ decreases-items_of l = 2 * entries_size l.entries + 1
 abbrev pub invariant-items_of-loop-entry : goal.invariant-items_of-loop-entry
 invariant-items_of-loop-entry l =
     record {
-      renamed : l.trees ++ each (entry_in l.fn.labels.now) l.entry-iterator ≡ each (entry_in l.fn.labels.now) l.initial.entry-iterator;
+      renamed : l.trees ++ each (entry_in l.fn.labels) l.entry-iterator ≡ each (entry_in l.fn.labels) l.initial.entry-iterator;
       lighter : entries_size l.entry-iterator ≤ entries_size l.initial.entry-iterator;
-      own : AllByRecursion (EntryHasOwn l.fn.labels.now) l.entry-iterator;
+      own : AllByRecursion (EntryHasOwn l.fn.labels) l.entry-iterator;
     }

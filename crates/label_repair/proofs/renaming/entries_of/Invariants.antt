@@ -9,6 +9,6 @@ use Rattle.label_repair.proofs.renaming.entries_of.Given as goal
 abbrev pub invariant-loop-entry : goal.invariant-loop-entry
 invariant-loop-entry l =
     record {
-      renamed : l.trees ++ each (entry_in l.fn.labels.now) (entries_view l.entry-iterator.rest.items) ≡ each (entry_in l.fn.labels.now) (entries_view l.initial.entry-iterator.rest.items);
-      own : AllByRecursion (EntryHasOwn l.fn.labels.now) (entries_view l.entry-iterator.rest.items);
+      renamed : l.trees ++ each (entry_in l.fn.labels) (entries_view l.entry-iterator.rest.items) ≡ each (entry_in l.fn.labels) (entries_view l.initial.entry-iterator.rest.items);
+      own : AllByRecursion (EntryHasOwn l.fn.labels) (entries_view l.entry-iterator.rest.items);
     }

@@ -9,6 +9,6 @@ use Rattle.label_repair.proofs.renaming.types_of.Given as goal
 abbrev pub invariant-loop-name : goal.invariant-loop-name
 invariant-loop-name l =
     record {
-      renamed : l.texts.items ++ each (label_in l.fn.labels.now) (names_view l.name-iterator.rest.items) ≡ each (label_in l.fn.labels.now) (names_view l.initial.name-iterator.rest.items);
-      own : AllByRecursion (HasOwn l.fn.labels.now) (names_view l.name-iterator.rest.items);
+      renamed : l.texts.items ++ each (label_in l.fn.labels) (names_view l.name-iterator.rest.items) ≡ each (label_in l.fn.labels) (names_view l.initial.name-iterator.rest.items);
+      own : AllByRecursion (HasOwn l.fn.labels) (names_view l.name-iterator.rest.items);
     }

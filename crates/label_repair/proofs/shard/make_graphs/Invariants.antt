@@ -9,6 +9,6 @@ use Rattle.label_repair.proofs.shard.make_graphs.Given as goal
 abbrev pub invariant-loop-graph : goal.invariant-loop-graph
 invariant-loop-graph l =
     record {
-      made : graphs_put l.fn.labels.now (names_view l.graph-iterator) (graphs_view l.made.entries) ≡ graphs_put l.fn.labels.now (names_view l.initial.graph-iterator) (graphs_view l.initial.made.entries);
-      own : AllByRecursion (HasOwn l.fn.labels.now) (names_view l.graph-iterator);
+      made : graphs_put l.fn.labels (names_view l.graph-iterator) (graphs_view l.made.entries) ≡ graphs_put l.fn.labels (names_view l.initial.graph-iterator) (graphs_view l.initial.made.entries);
+      own : AllByRecursion (HasOwn l.fn.labels) (names_view l.graph-iterator);
     }

@@ -9,6 +9,6 @@ use Rattle.label_repair.proofs.shard.make_nodes.Given as goal
 abbrev pub invariant-loop-key : goal.invariant-loop-key
 invariant-loop-key l =
     record {
-      made : nodes_put l.fn.labels.now (nodes_view l.key-iterator) (graphs_view l.made.entries) ≡ nodes_put l.fn.labels.now (nodes_view l.initial.key-iterator) (graphs_view l.initial.made.entries);
-      own : AllByRecursion (NodeHasOwn l.fn.labels.now) (nodes_view l.key-iterator);
+      made : nodes_put l.fn.labels (nodes_view l.key-iterator) (graphs_view l.made.entries) ≡ nodes_put l.fn.labels (nodes_view l.initial.key-iterator) (graphs_view l.initial.made.entries);
+      own : AllByRecursion (NodeHasOwn l.fn.labels) (nodes_view l.key-iterator);
     }

@@ -47,12 +47,8 @@ fn conflict_of(
     }
 }
 
-fn placed(
-    alloc: Global,
-    at: ConflictAt<'_>,
-    labels: &Labels,
-) -> Result<PlacedConflict, AllocError>
-    requires { HasOwn labels.now (name_view at.entry.node.now) }
+fn placed(alloc: Global, at: ConflictAt<'_>, labels: &Labels) -> Result<PlacedConflict, AllocError>
+    requires { HasOwn labels.now (name_view at.node.now) }
     ensures { IfOk result (λ c. conflict_in (Some c) ≡ option_map (conflict_renamed labels.now) (conflict_view (Some at.entry))) }
 {
     let ConflictAt {
