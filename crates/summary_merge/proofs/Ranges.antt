@@ -1,5 +1,5 @@
 -- Runs, one after another.
-use Rattle.std.proofs.Common.{◌≡◌, List, [], ◌∷◌, refl, sym, ap, ◌∙◌}
+use Rattle.std.proofs.Common.{◌≡◌, List, [], ◌∷◌, refl}
 use Rattle.summary_merge.specs.Runs.{RunOf, runs_joined, all_from}
 use Rattle.summary_merge.specs.Laws.{associative}
 

@@ -1,4 +1,4 @@
-use Rattle.std.proofs.Common.{◌≡◌, List, suc, length, arith, ap, ◌∙◌, sym, subst, ◌∷◌}
+use Rattle.std.proofs.Common.{◌≡◌, suc, length, arith, ap, ◌∙◌, sym, subst, ◌∷◌}
 use Rattle.std.specs.List.{IsDistinct}
 use Rattle.std.specs.Map.{keys_of}
 use Rattle.std.proofs.lemmas.Map.Keys.{IsDistinct-tail}

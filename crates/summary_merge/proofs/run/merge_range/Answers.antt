@@ -1,4 +1,4 @@
-use Rattle.std.proofs.Common.{◌≡◌, ◌∷◌, sym, ap, ◌∙◌, subst}
+use Rattle.std.proofs.Common.{sym, ap, ◌∙◌, subst}
 use Rattle.summary_merge.specs.Runs.{AreNeighbours, Begins, all_from}
 use Rattle.summary_merge.proofs.Ranges.{two_first}
 use Rattle.summary_merge.proofs.run.merge_range.Goals as goal
