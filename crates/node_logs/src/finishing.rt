@@ -14,8 +14,12 @@ use ld_tree::{Members, Text, Tree, Trees};
 use std::alloc::{AllocError, Global};
 use std::collections::BTreeMap;
 
-/// The graphs, each a map from ids to nodes.
-pub(crate) fn graphs_of(alloc: Global, graphs: Graphs) -> Result<Members, AllocError>
+/// The graphs as JSON, each a map from the ids of its nodes to the nodes. Each graph and node is given back once it is finished.
+///
+/// # Errors
+///
+/// `AllocError` where memory is refused.
+pub fn graphs_of(alloc: Global, graphs: Graphs) -> Result<Members, AllocError>
     ensures { IfOk result (λ ms. ms ≡ graph_pairs (graphs_view graphs.entries)) }
 {
     let mut members = Members::with_capacity(alloc, graphs.len())?;

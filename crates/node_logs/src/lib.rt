@@ -3,8 +3,11 @@
 //! On the way through a document nothing is compared: in a [`Gathered`] each node notes what is told of it. Once all is told, each node is
 //! finished by itself, and given back before the next one: types and entries stand once, and properties in the order of their names. So
 //! the whole takes n log n steps, in whichever order nodes, properties, types and entries come, and whatever they are.
+//!
+//! Whoever knows by other means what all is told of a node makes its [`Node`], and puts it into [`Graphs`].
 #![tactic(auto)]
 
+mod entries;
 mod finishing;
 mod gathered;
 mod graphs;
@@ -12,5 +15,8 @@ mod node;
 mod repeats;
 mod tree_order;
 
+pub use entries::{list_object, reference};
+pub use finishing::graphs_of;
 pub use gathered::Gathered;
-pub use node::Telling;
+pub use graphs::{Graph, Graphs, note_graph, put_graph, put_node};
+pub use node::{Node, Telling, Told};

@@ -12,18 +12,23 @@ use std::alloc::{AllocError, Global};
 
 /// What was told of a property without a break, in the order in which it was told.
 #[derive(Drop)]
-pub(crate) struct Told {
-    pub(crate) property: Text,
-    pub(crate) entries: Trees,
+pub struct Told {
+    /// The property.
+    pub property: Text,
+    /// The entries, in the order in which they were told.
+    pub entries: Trees,
 }
 
 /// What was told of a node. Nothing is compared with what was told before: a type or an entry may be there twice, and a property
 /// wherever it was told of.
 #[derive(Drop)]
-pub(crate) struct Node {
-    pub(crate) types: Vec<Text>,
-    pub(crate) index: Option<Text>,
-    pub(crate) told: Vec<Told>,
+pub struct Node {
+    /// The types.
+    pub types: Vec<Text>,
+    /// The index, where one was told.
+    pub index: Option<Text>,
+    /// The properties, with their entries.
+    pub told: Vec<Told>,
 }
 
 /// What is told of a node.

@@ -16,6 +16,7 @@ use node_walk::{To, walk_document, walk_items};
 use std::alloc::{AllocError, Global};
 
 /// Part of an expanded document.
+#[derive(Drop)]
 pub enum Chunk<'a> {
     /// Operations that are given as they are.
     Spine {
@@ -35,22 +36,6 @@ pub enum Chunk<'a> {
         /// Whether it is a reverse property.
         reverse: bool,
     },
-}
-
-// By hand, so that what is proved of a caller sees one drop, and not one for each kind.
-impl<'a> Drop for Chunk<'a> {
-    fn drop(self) {
-        match self {
-            Chunk::Spine { ops: _ } => {}
-            Chunk::Range {
-                items: _,
-                graph: _,
-                subject: _,
-                property: _,
-                reverse: _,
-            } => {}
-        }
-    }
 }
 
 /// The operations of the chunk with this number: what node map generation does to the node map on the way through it (JSON-LD 1.1 API,

@@ -97,8 +97,8 @@ fn give(given: &mut BTreeMap<Text, u64>, text: Text, number: u64) -> Result<(), 
     }
 }
 
-/// The label with this number.
-fn label_text(alloc: Global, number: u64) -> Result<Text, AllocError>
+/// The label with this number, `_:b0` for the first one. Fails only where memory is refused.
+pub fn label_text(alloc: Global, number: u64) -> Result<Text, AllocError>
     ensures { IfOk result (λ t. t ≡ label_of number) }
 {
     let text = format!(in alloc; "_:b{number}")?;

@@ -8,3 +8,4 @@ mod labels;
 mod nodes;
 
 pub use generation::{Conflict, MapStop, NodeMap, into_node_map, node_map};
+pub use labels::label_text;

@@ -1,17 +1,14 @@
 // The steps of node map generation that make a node map.
 ghost use Rattle.std.specs.Prelude.{◌≡◌, None, OnOk, IfOk, ◌∷◌, [], if◌then◌else◌};
 ghost use Rattle.std.specs.Str.{bytes_eq};
-ghost use Rattle.ld_model.specs.NodeMap.{reference};
-ghost use Rattle.ld_tree.specs.View.{view};
-ghost use Rattle.node_model.specs.NodeMap.{list_object};
 ghost use Rattle.node_model.specs.Labels.{no_labels};
 ghost use Rattle.node_model.specs.Generating.{or_conflict};
 ghost use Rattle.node_ops.specs.Views.{state_view, conflict_in};
 
 use crate::generation::Conflict;
 use crate::labels::Labels;
-use ld_tree::{Members, Text, Tree, Trees};
-use node_logs::{Gathered, Telling};
+use ld_tree::{Text, Tree, Trees};
+use node_logs::{Gathered, Telling, list_object, reference};
 use node_walk::Gather;
 use std::alloc::{AllocError, Global};
 
@@ -208,22 +205,4 @@ fn note_index(
         second,
     });
     Ok(())
-}
-
-/// A reference to a node.
-fn reference(alloc: Global, node: &Text) -> Result<Tree, AllocError>
-    ensures { IfOk result (λ t. view t ≡ reference node.now) }
-{
-    let mut members = Members::with_capacity(alloc, 1)?;
-    members.put(alloc, "@id", Tree::Str(node.copy()?))?;
-    Ok(Tree::Map(members))
-}
-
-/// A list object, with nothing but its list.
-fn list_object(alloc: Global, items: Trees) -> Result<Tree, AllocError>
-    ensures { IfOk result (λ t. view t ≡ list_object items) }
-{
-    let mut members = Members::with_capacity(alloc, 1)?;
-    members.put(alloc, "@list", Tree::Items(items))?;
-    Ok(Tree::Map(members))
 }

@@ -17,6 +17,7 @@ use Rattle.op_laws.specs.Exchanged.{Exchange, exchanged, exchanged_entry, exchan
 use Rattle.op_laws.specs.Sound.{IsSoundName, IsSoundProperty, IsSoundEntry, AreSoundEntries, IsSound}
 use Rattle.op_laws.proofs.Runs.{apply_keeps_labels}
 use Rattle.op_laws.proofs.Numbered.{labels_can_be_numbered_first, first_uses_are_enough}
+use Rattle.op_laws.proofs.Divided.{operations_are_generation}
 use Rattle.op_laws.proofs.Exchanged.{divisions_are_generation}
 use Rattle.op_laws.proofs.Sound.{operations_are_sound}
 use Rattle.sum_model.specs.Sums.{Placed, placed_from, placed, placed_chunks}
@@ -24,7 +25,7 @@ use Rattle.sum_laws.proofs.Places.{chunks_are_in_order}
 use Rattle.shard_model.specs.Numbered.{numbered_from}
 use Rattle.shard_model.specs.Renamed.{PlacedConflict}
 use Rattle.shard_model.specs.Joined.{graphs_joined, conflict_joined, outcome_of, with_count}
-use Rattle.shard_laws.specs.Laws.{NumbersAreThoseInLabels, ops, labels_by, shards_of, ShardsAreTheNodeMap, ops_by_chunk, DivisionsAreSound, NamesAreThoseOfParts, ShardsAreGeneration}
+use Rattle.shard_laws.specs.Laws.{NumbersAreThoseInLabels, ops, labels_by, shards_of, ShardsAreTheNodeMap, ops_by_chunk, DivisionsAreSound, NamesAreThoseOfParts, ShardsAreGeneration, RangesAreGeneration, RangesAreSound}
 use Rattle.op_laws.proofs.Owned.{sound_names_have_own_labels}
 use Rattle.shard_laws.proofs.Whole.{whole_is_made}
 use Rattle.shard_laws.proofs.Shards.{shards_are_whole}
@@ -62,7 +63,7 @@ ops_of_all chunk (os ∷ chunks) =
     map-append (λ (o : Placed). o.1) (placed chunk os) (placed_chunks (chunk + 1) chunks)
     ∙ ap₂ ◌++◌ (ops_placed chunk 0 os) (ops_of_all (chunk + 1) chunks)
 
-chunk_by_chunk : (number : ℕ) (chunks : List Chunk) → flat_map (λ os. os) (ops_by_chunk number chunks) ≡ ops_of_chunks number chunks
+pub chunk_by_chunk : (number : ℕ) (chunks : List Chunk) → flat_map (λ os. os) (ops_by_chunk number chunks) ≡ ops_of_chunks number chunks
 chunk_by_chunk number [] = refl
 chunk_by_chunk number (c ∷ cs) = ap (λ l. ops_of number c ++ l) (chunk_by_chunk (number + 1) cs)
 
@@ -173,3 +174,36 @@ shards_are_generation shards some chunks items divides few =
     flat (shards_are_the_node_map shards some parts) (divided_are_sound chunks items divides) few in
     same_outcome (conflict_joined all) (graphs_joined all) (length names) (run os before).state both.0 both.1 (issued_by os)
     ∙ ap (λ (s : State). outcome s.conflict s) (divisions_are_generation chunks items divides)
+
+-- Ranges of the document's own array.
+all_behind : (a b : List Op) → AllByRecursion IsSound a → AllByRecursion IsSound b → AllByRecursion IsSound (a ++ b)
+all_behind [] b first second = second
+all_behind (o ∷ a) b first second = (first.0, all_behind a b first.1 second)
+
+ranges_sound : (number : ℕ) (parts : List (List Tree)) → AllByRecursion IsSound (ops_of_chunks number (each top_range parts))
+ranges_sound number [] = tt
+ranges_sound number (part ∷ parts) =
+    all_behind (ops_of number (top_range part)) (ops_of_chunks (number + 1) (each top_range parts))
+    (operations_are_sound number part (iri default_graph) None None false refl tt) (ranges_sound (number + 1) parts)
+
+pub ranges_are_sound : RangesAreSound
+ranges_are_sound parts = (
+  ranges_sound 0 parts,
+  ops_of_all 0 (ops_by_chunk 0 (each top_range parts)) ∙ chunk_by_chunk 0 (each top_range parts),
+)
+
+pub ranges_are_generation : RangesAreGeneration
+ranges_are_generation shards some ranges few =
+    let chunks = each top_range ranges in
+    let os = ops_of_chunks 0 chunks in
+    let names = labels_by os in
+    let parts = ops_by_chunk 0 chunks in
+    let flat : flat_map (λ os. os) parts ≡ os = chunk_by_chunk 0 chunks in
+    let all = shards_of names shards (placed_chunks 0 parts) in
+    let both : (graphs_joined all ≡ (run os before).state.graphs) × (option_map (λ (c : PlacedConflict). c.conflict) (conflict_joined all) ≡ (run os before).state.conflict) =
+    subst (λ l. AllByRecursion IsSound l → length (labels_by l) ≤ 2 ^ 64
+    → (graphs_joined (shards_of (labels_by l) shards (placed_chunks 0 parts)) ≡ (run l before).state.graphs)
+    × (option_map (λ (c : PlacedConflict). c.conflict) (conflict_joined (shards_of (labels_by l) shards (placed_chunks 0 parts))) ≡ (run l before).state.conflict))
+    flat (shards_are_the_node_map shards some parts) (ranges_sound 0 ranges) few in
+    same_outcome (conflict_joined all) (graphs_joined all) (length names) (run os before).state both.0 both.1 (issued_by os)
+    ∙ ap (λ (s : State). outcome s.conflict s) (operations_are_generation ranges)

@@ -38,7 +38,7 @@ with_one : {X : Type 0} (held : List X) (x : X) (t : Bool) → (if t then held e
 with_one held x true = sym (append-nil held)
 with_one held x false = refl
 
-one_name : (held : List Name) (n : Name) → with_name held n ≡ lists_joined same_name held (n ∷ [])
+pub one_name : (held : List Name) (n : Name) → with_name held n ≡ lists_joined same_name held (n ∷ [])
 unfolding with_name
 one_name held n = with_one held n (list_any (same_name n) held)
 
@@ -57,7 +57,7 @@ any_same : (e : Entry) (es : List Entry) → list_any (op_same_entry e) es ≡ l
 any_same e [] = refl
 any_same e (f ∷ es) = ap₂ ◌||◌ (same_test e f) (any_same e es)
 
-one_entry : (e : Entry) (es : List Entry) → with_entry e es ≡ lists_joined same_entry es (e ∷ [])
+pub one_entry : (e : Entry) (es : List Entry) → with_entry e es ≡ lists_joined same_entry es (e ∷ [])
 one_entry e es = ap (λ t. if t then es else (es ++ e ∷ [])) (any_same e es) ∙ with_one es e (list_any (same_entry e) es)
 
 last-append : {X W : Type 0} (gives : X → Option W) (xs ys : List X) → last gives (xs ++ ys) ≡ option_or (last gives ys) (last gives xs)
@@ -195,7 +195,7 @@ module _ (names : List Name) (few : length names ≤ 2 ^ 64) where
     properties = property_step p es change own is e.properties has.properties i;
   }
 
-  entry_added : (x : Entry) → EntryHasOwn names x → (old : List Entry) → AllByRecursion (EntryHasOwn names) old → told (entry_in names x) (each (entry_in names) old) ≡ each (entry_in names) (lists_joined same_entry old (x ∷ []))
+  pub entry_added : (x : Entry) → EntryHasOwn names x → (old : List Entry) → AllByRecursion (EntryHasOwn names) old → told (entry_in names x) (each (entry_in names) old) ≡ each (entry_in names) (lists_joined same_entry old (x ∷ []))
   entry_added x own old all = (adding_is_alike names few).1 x old own all ∙ ap (each (entry_in names)) (one_entry x old)
 
   type_changed : (e : PartEntry) (t : Name) → HasOwn names t → PartHasOwn names e → with_type (label_in names t) (shown e) ≡ shown (part_entries_joined e (record { types = t ∷ []; index = None; properties = [] }))

@@ -5,7 +5,7 @@ use Rattle.ld_model.specs.Tree.{Tree}
 use Rattle.node_model.specs.Generating.{generate}
 use Rattle.op_model.specs.Names.{Name, same_name}
 use Rattle.op_model.specs.Ops.{Op}
-use Rattle.op_model.specs.Noting.{Chunk, ops_of, ops_of_chunks}
+use Rattle.op_model.specs.Noting.{Chunk, top_range, ops_of, ops_of_chunks}
 use Rattle.op_model.specs.Running.{place_of, used, uses_of_all, run, before}
 use Rattle.op_laws.specs.Exchanged.{Divides}
 use Rattle.op_laws.specs.Sound.{IsSound}
@@ -71,3 +71,16 @@ ShardsAreGeneration =
     (shards : ℕ) → 0 < shards → (chunks : List Chunk) (items : List Tree) → Divides chunks items
     → let names = labels_by (ops_of_chunks 0 chunks) in
     length names ≤ 2 ^ 64 → with_count (length names) (joined (shards_of names shards (placed_chunks 0 (ops_by_chunk 0 chunks)))) ≡ generate items
+
+-- So it is where the document's own array is divided into ranges.
+abbrev pub RangesAreGeneration : Type 0
+RangesAreGeneration =
+    (shards : ℕ) → 0 < shards → (parts : List (List Tree)) → let chunks = each top_range parts in
+    let names = labels_by (ops_of_chunks 0 chunks) in
+    length names ≤ 2 ^ 64 → with_count (length names) (joined (shards_of names shards (placed_chunks 0 (ops_by_chunk 0 chunks)))) ≡ generate (flat_map (λ items. items) parts)
+
+-- The operations of ranges of the document's own array are sound.
+abbrev pub RangesAreSound : Type 0
+RangesAreSound =
+    (parts : List (List Tree)) → AllByRecursion IsSound (ops_of_chunks 0 (each top_range parts))
+    × (ops (placed_chunks 0 (ops_by_chunk 0 (each top_range parts))) ≡ ops_of_chunks 0 (each top_range parts))

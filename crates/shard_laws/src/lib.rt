@@ -3,7 +3,7 @@
 //! There is no code here. Each function does nothing, and its contract is one law, which `specs/Laws.antt` states.
 #![tactic(auto)]
 
-ghost use Rattle.shard_laws.specs.Laws.{DivisionsAreSound, NamesAreThoseOfParts, NoNodeIsThereTwice, NumbersAreThoseInLabels, ShardsAreGeneration, ShardsAreTheNodeMap, SumsHaveOwn};
+ghost use Rattle.shard_laws.specs.Laws.{DivisionsAreSound, NamesAreThoseOfParts, NoNodeIsThereTwice, NumbersAreThoseInLabels, RangesAreGeneration, RangesAreSound, ShardsAreGeneration, ShardsAreTheNodeMap, SumsHaveOwn};
 
 /// A name that has a label has one number, which is the number in its label: how many names were used before it. No other name has one.
 pub fn numbers_are_those_in_labels()
@@ -45,4 +45,14 @@ pub fn divisions_are_sound()
 /// section 7.2): the same node map and as many labels, or the same first conflict.
 pub fn shards_are_generation()
     ensures { ShardsAreGeneration }
+{}
+
+/// The operations of ranges of the document's own array, numbered in their order, are sound, and they are those of the chunks at their places.
+pub fn ranges_are_sound()
+    ensures { RangesAreSound }
+{}
+
+/// So it is where the document's own array is divided into ranges, in any way.
+pub fn ranges_are_generation()
+    ensures { RangesAreGeneration }
 {}

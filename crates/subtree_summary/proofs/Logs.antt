@@ -32,7 +32,7 @@ same_property : (p : Name) (a b : List Entry) → properties_joined ((p, a) ∷ 
 same_property p a b = ap (λ t. (p, lists_joined same_entry a (or_empty [] (cond t (Some b) None))) ∷ cond (not (t || false)) ((p, b) ∷ []) []) (same_name-refl p)
 
 -- What is told last goes behind the others.
-last : (ts : List Told) (t : Told) → properties_view (ts ++ t ∷ []) ≡ properties_joined (properties_view ts) (told_view t ∷ [])
+pub last : (ts : List Told) (t : Told) → properties_view (ts ++ t ∷ []) ≡ properties_joined (properties_view ts) (told_view t ∷ [])
 last ts t = properties-append ts (t ∷ []) ∙ ap (properties_joined (properties_view ts)) (properties.right (told_view t ∷ []))
 
 -- Further entries of the property with which a log ends.

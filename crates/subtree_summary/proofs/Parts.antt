@@ -1,5 +1,5 @@
 -- Sets of names and maps of nodes in the order of first use, seen as the definitions' lists.
-use Rattle.std.proofs.Common.{◌≡◌, List, [], ◌∷◌, ◌++◌, Bool, true, false, cond, Option, Some, None, is_some, ◌||◌, refl, sym, ap, ap₂, ◌∙◌}
+use Rattle.std.proofs.Common.{◌≡◌, List, [], ◌∷◌, ◌++◌, Bool, true, false, cond, Some, None, is_some, ◌||◌, refl, sym, ap, ◌∙◌}
 use Rattle.std.specs.Prelude.{option_map}
 use Rattle.std.specs.List.{list_any, IsDistinct}
 use Rattle.std.specs.Map.{lookup, keys_of, set_value}
@@ -7,13 +7,13 @@ use Rattle.std.proofs.lemmas.List.{map-append}
 use Rattle.std.proofs.lemmas.Map.Made.{is_some-lookup}
 use Rattle.indexmap.specs.IndexMap.{insert_entry}
 use Rattle.indexmap.specs.IndexSet.{insert_key}
-use Rattle.op_model.specs.Names.{Name, same_name}
+use Rattle.op_model.specs.Names.{same_name}
 use Rattle.sum_model.specs.Joins.{lists_joined}
 use Rattle.sum_model.specs.Sums as model
 use Rattle.sum_model.specs.Sums.{Key, same_key, bare, part_entries_joined}
 use Rattle.sum_laws.proofs.Same.{same_key-exact, same_key-sym}
 use Rattle.sum_laws.proofs.Sums.{part_entries}
-use Rattle.sum_laws.proofs.Steps.{old_joined, new_joined, absent_joined, present_joined, seen, set_value-seen, lookup-seen, any-seen, distinct-seen}
+use Rattle.sum_laws.proofs.Steps.{old_joined, new_joined, absent_joined, present_joined, set_value-seen, lookup-seen, any-seen, distinct-seen}
 use Rattle.node_names.specs.View.{name_view, names_view, key_view}
 use Rattle.node_names.specs.declared.name.Name as code
 use Rattle.node_names.specs.declared.name.NodeKey.{NodeKey}

@@ -1,5 +1,5 @@
 -- The sum that a part stands for.
-use Rattle.std.specs.Prelude.{ℕ, ◌≡◌, List, [], ◌∷◌, Bool, length, slice_get, map as each, IfSome}
+use Rattle.std.specs.Prelude.{ℕ, ◌≡◌, List, Bool, length, slice_get, map as each, IfSome}
 use Rattle.std.specs.Map.{lookup}
 use Rattle.op_model.specs.Names.{same_name}
 use Rattle.sum_model.specs.Joins.{maps_joined}

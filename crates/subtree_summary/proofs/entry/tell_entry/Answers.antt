@@ -1,4 +1,4 @@
-use Rattle.std.proofs.Common.{[], refl, ap, ◌∙◌}
+use Rattle.std.proofs.Common.{refl, ap, ◌∙◌}
 use Rattle.node_names.specs.View.{name_view}
 use Rattle.subtree_summary.specs.Log.{properties_view}
 use Rattle.subtree_summary.proofs.Logs.{entry_behind}

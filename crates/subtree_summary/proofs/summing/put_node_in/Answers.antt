@@ -1,5 +1,5 @@
 use Rattle.sum_model.specs.Sums.{at_node}
-use Rattle.node_names.specs.View.{name_view, key_view}
+use Rattle.node_names.specs.View.{key_view}
 use Rattle.subtree_summary.specs.Log.{part_entry_view}
 use Rattle.subtree_summary.proofs.Sums.{put_in_shard}
 use Rattle.subtree_summary.proofs.summing.put_node_in.Goals as goal

@@ -1,4 +1,4 @@
-use Rattle.std.proofs.Common.{◌≡◌, List, [], ◌∷◌, ◌+◌, length, arith, sym, ap, ap₂, ◌∙◌}
+use Rattle.std.proofs.Common.{◌≡◌, [], ◌∷◌, ◌+◌, length, arith, sym, ap, ap₂, ◌∙◌}
 use Rattle.op_model.specs.Ops.{Op}
 use Rattle.op_model.specs.Running.{used, uses, uses_of_all}
 use Rattle.sum_model.specs.Shards.{in_shard, ops_in}
