@@ -10,7 +10,7 @@ use Rattle.ld_model.specs.NodeMap.{new_node, node_or_new}
 use Rattle.ld_model.specs.Flatten.{graph_into, graph_of, nodes_of}
 use Rattle.ld_tree.specs.View.{view, members_view}
 use Rattle.ld_tree.specs.declared.value.Tree.{Tree as Value}
-use Rattle.node_ops.proofs.GraphLemmas.{member_at-shown, shown-put}
+use Rattle.node_logs.proofs.GraphLemmas.{member_at-shown, shown-put}
 
 -- A node with a graph's nodes.
 abbrev with_graph : Tree → Pairs → Tree

@@ -1,7 +1,7 @@
 use Rattle.std.proofs.Common.{◌≡◌, ◌++◌, sym, ap₂, subst, ◌∙◌}
 use Rattle.ld_model.specs.Tree.{AreAscending, put}
 use Rattle.ld_tree.specs.View.{view}
-use Rattle.node_ops.proofs.Once.{put_behind}
+use Rattle.node_logs.proofs.Once.{put_behind}
 use Rattle.flatten_out.proofs.flattening.copy_of.Goals as goal
 
 pub loop-key-preserved : goal.loop-key-preserved

@@ -1,7 +1,7 @@
 use Rattle.std.proofs.Common.{◌≡◌, ◌++◌, sym, subst}
 use Rattle.ld_model.specs.Tree.{AreAscending, put}
 use Rattle.ld_tree.specs.View.{view, members_view}
-use Rattle.node_ops.proofs.Once.{put_behind}
+use Rattle.node_logs.proofs.Once.{put_behind}
 use Rattle.flatten_out.proofs.graphs.held_nodes.Goals as goal
 
 pub loop-id-preserved : goal.loop-id-preserved

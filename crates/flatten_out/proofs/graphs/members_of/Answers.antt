@@ -2,8 +2,8 @@ use Rattle.std.proofs.Common.{◌≡◌, ◌++◌, ◌∷◌, List, ℕ}
 use Rattle.std.proofs.lemmas.Map.Iter.{rest_more}
 use Rattle.ld_tree.specs.View.{view, members_view}
 use Rattle.ld_tree.specs.declared.value.Tree.{Tree}
-use Rattle.node_ops.proofs.GraphLemmas.{ascending-shown}
-use Rattle.node_ops.proofs.Once.{put_behind}
+use Rattle.node_logs.proofs.GraphLemmas.{ascending-shown}
+use Rattle.node_logs.proofs.Once.{put_behind}
 use Rattle.flatten_out.proofs.graphs.members_of.Goals as goal
 
 pub loop-id-preserved : goal.loop-id-preserved

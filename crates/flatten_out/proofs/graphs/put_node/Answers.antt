@@ -1,6 +1,6 @@
 use Rattle.std.proofs.Common.{ap, ◌∙◌}
 use Rattle.ld_tree.specs.View.{view, members_view}
-use Rattle.node_ops.proofs.GraphLemmas.{shown-new}
+use Rattle.node_logs.proofs.GraphLemmas.{shown-new}
 use Rattle.flatten_out.proofs.graphs.put_node.Goals as goal
 
 pub returns-in-Ok : goal.returns-in-Ok
