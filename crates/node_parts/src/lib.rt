@@ -1,0 +1,11 @@
+//! The node map of an expanded document, made of parts (JSON-LD 1.1 API, section 7.2).
+//!
+//! The document's items are divided into chunks. Each chunk's operations are summed up by themselves; the sums are merged, the labels
+//! numbered by the chunks' first uses, and the merged sum is put under labels. [`node_map_by_parts`] has the same contract as generation at
+//! once.
+#![tactic(auto)]
+
+mod chunks;
+mod parts;
+
+pub use parts::node_map_by_parts;
