@@ -10,7 +10,7 @@ use crate::words::{Command, Order};
 use ctx_store::Store;
 use flatten_out::into_flattened;
 use ld_json::{Text, Tree, Trees, read_tree, text_of};
-use node_ops::into_node_map;
+use node_parts::node_map_by_parts;
 use std::alloc::{AllocError, Global};
 use tree_expand::expand_document;
 
@@ -65,11 +65,12 @@ fn given(alloc: Global, command: Command, items: Trees) -> Result<Trees, Stop>
     }
 }
 
-/// The flattened form of expanded items (JSON-LD 1.1 API, section 7.1). They are taken apart for their node map, and that for its nodes.
+/// The flattened form of expanded items (JSON-LD 1.1 API, section 7.1). They are taken apart for their node map, which is made of the sums of
+/// their chunks, and that for its nodes.
 fn flattened(alloc: Global, items: Trees) -> Result<Trees, Stop>
     ensures { Answers result (flattened items) }
 {
-    let (map, _) = into_node_map(alloc, items)?;
+    let (map, _) = node_map_by_parts(alloc, items)?;
     let nodes = into_flattened(alloc, map)?;
     Ok(nodes)
 }

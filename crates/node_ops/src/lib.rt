@@ -1,6 +1,9 @@
 //! Node map generation (JSON-LD 1.1 API, section 7.2).
 //!
 //! [`into_node_map`] makes the node map of an expanded document, and takes the document apart for it; [`node_map`] does so with a copy.
+//!
+//! What a part of a document says of a node map has its calls and types here, too: [`ops_of`] gives the operations of a [`Chunk`], with
+//! [`Name`]s in place of labels, and [`shard_of`] the shard that a node falls in.
 #![tactic(auto)]
 
 mod generation;
@@ -9,3 +12,5 @@ mod nodes;
 
 pub use generation::{Conflict, MapStop, NodeMap, into_node_map, node_map};
 pub use labels::label_text;
+pub use node_names::{Entries, Entry, Name, Op, Ops};
+pub use node_notes::{Chunk, ops_of, ops_of_items, shard_of};
