@@ -1,7 +1,11 @@
 #!/usr/bin/env python3
 """Writes a JSON document of one shape: shapes.py SHAPE COUNT. `SHAPES` says of each what it has."""
+import os
 import random
 import sys
+
+sys.path.insert(0, os.path.dirname(os.path.abspath(__file__)))
+import colliding  # noqa: E402
 
 SHAPES = {
     "values": "one item with COUNT different values",
@@ -32,6 +36,8 @@ SHAPES = {
     "unnamed": "COUNT items without an id, each inside a property of one without an id",
     "graphs": "COUNT graphs of one node each, descending",
     "one_graph": "COUNT items that each state one node of one graph",
+    "colliding": "one graph of COUNT nodes whose ids have one hash under a hasher without a secret",
+    "one_tree": "one item in which COUNT nodes are nested, a hundred under each",
     "reversed": "one node to which COUNT nodes point by a reverse property",
     "included": "one block of COUNT included nodes",
     "list": "one list of COUNT items",
@@ -62,6 +68,19 @@ def shuffled(numbers):
     numbers = list(numbers)
     random.Random(1).shuffle(numbers)
     return numbers
+
+
+def colliding_rows(count):
+    graph, names = colliding.ids(count)
+    nodes = ",".join('{"@id":"%s","http://g/v#p":"v"}' % name for name in names)
+    return ['{"@id":"%s","@graph":[%s]}' % (graph, nodes)]
+
+
+def one_tree(count):
+    """Nodes under one item: each hundred of them stands under one that stands under the item."""
+    leaf = '{"@id":"http://g/n%d","http://g/v#label":"v%d"}'
+    hundreds = [",".join(leaf % (i, i) for i in range(first, min(first + 100, count))) for first in range(0, count, 100)]
+    return ['{%s,"http://g/v#p":[%s]}' % (ONE, ",".join('{"@id":"http://g/h%d","http://g/v#p":[%s]}' % row for row in enumerate(hundreds)))]
 
 
 def rows(shape, count):
@@ -95,6 +114,8 @@ def rows(shape, count):
         "unnamed": lambda: ['{"http://g/v#p":{"http://g/v#q":"v%d"}}' % i for i in numbers],
         "graphs": lambda: ['{"@id":"http://g/g%07d","@graph":{%s,"http://g/v#p":"v"}}' % (count - i, ONE) for i in numbers],
         "one_graph": lambda: ['{"@id":"http://g/g","@graph":{"@id":"http://g/n%d","http://g/v#p":"v"}}' % i for i in numbers],
+        "colliding": lambda: colliding_rows(count),
+        "one_tree": lambda: one_tree(count),
         "reversed": lambda: ['{%s,"@reverse":{"http://g/v#p":[%s]}}' % (ONE, ",".join(map(reference, shuffled(numbers))))],
         "included": lambda: ['{"@included":[%s]}' % ",".join('{"@id":"http://g/n%d","http://g/v#p":"v"}' % i for i in numbers)],
         "list": lambda: [item(['{"@list":[%s]}' % ",".join(map(reference, numbers))])],
