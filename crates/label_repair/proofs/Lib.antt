@@ -1,4 +1,5 @@
 pub mod Names
+pub mod Added
 pub mod Kept
 pub mod Renamed
 pub mod OwnConflicts

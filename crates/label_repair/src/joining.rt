@@ -106,7 +106,27 @@ fn add_graph(alloc: Global, graphs: &mut Graphs, name: Text, more: Graph) -> Res
     Ok(())
 }
 
+/// Adds nodes to those of a graph. Where there are none yet, they are taken as they are.
 fn add_nodes(nodes: &mut Graph, more: Graph) -> Result<(), AllocError>
+    ensures { OnOk result (graph_view nodes.new.entries ≡ nodes_added (graph_view more.entries) (graph_view nodes.old.entries)) }
+{
+    if nodes.is_empty() {
+        rise(&more);
+        *nodes = more;
+        return Ok(());
+    }
+    add_each(nodes, more)?;
+    Ok(())
+}
+
+/// The ids of a graph's nodes rise, so that the nodes added to none give the graph. It does nothing.
+fn rise(nodes: &Graph)
+    ensures { nodes_added (graph_view nodes.now.entries) [] ≡ graph_view nodes.now.entries }
+{
+    let _ = nodes.len();
+}
+
+fn add_each(nodes: &mut Graph, more: Graph) -> Result<(), AllocError>
     ensures { OnOk result (graph_view nodes.new.entries ≡ nodes_added (graph_view more.entries) (graph_view nodes.old.entries)) }
 {
     for (id, node) in more {

@@ -8,11 +8,12 @@ use indexmap::IndexSet;
 use node_names::Name;
 use std::alloc::{AllocError, Global};
 use std::marker::Model;
+use subtree_summary::Keyed;
 
 /// The names that have labels, each once, in the order of first use. The number in the label of a name is the count of names before it.
 #[derive(Drop)]
 pub struct Labels {
-    names: IndexSet<Name>,
+    names: IndexSet<Name, Keyed>,
 }
 
 impl Model for Labels {
@@ -30,12 +31,12 @@ impl Model for Labels {
 }
 
 impl Labels {
-    /// No name has a label yet.
-    pub fn new(alloc: Global) -> Labels
+    /// No name has a label yet. Those that get one are hashed by this hasher.
+    pub fn new(alloc: Global, hasher: Keyed) -> Labels
         ensures { result ≡ [] }
     {
         Labels {
-            names: IndexSet::new(alloc),
+            names: IndexSet::with_hasher(alloc, hasher),
         }
     }
 
@@ -75,7 +76,7 @@ impl Labels {
     }
 
     /// Gives labels to names that have none yet, in their order. Where memory is refused, some of them may have got theirs.
-    pub fn note_all(&mut self, names: &IndexSet<Name>) -> Result<(), AllocError>
+    pub fn note_all(&mut self, names: &IndexSet<Name, Keyed>) -> Result<(), AllocError>
         ensures { OnOk result (self.new ≡ used self.old (names_view names.now.keys)) }
     {
         for name in names.iter() {

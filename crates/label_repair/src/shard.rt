@@ -21,7 +21,7 @@ use node_names::{Name, NodeKey};
 use node_ops::Conflict;
 use std::alloc::{AllocError, Global};
 use std::collections::BTreeMap;
-use subtree_summary::{Part, PartEntry};
+use subtree_summary::{Keyed, Part, PartEntry};
 
 /// The conflict of two indexes of a node, and where it is.
 #[derive(Drop)]
@@ -62,7 +62,7 @@ fn make_graphs(
     alloc: Global,
     made: &mut Graphs,
     labels: &Labels,
-    graphs: IndexSet<Name>,
+    graphs: IndexSet<Name, Keyed>,
 ) -> Result<(), AllocError>
     requires { AllByRecursion (HasOwn labels.now) (names_view graphs.keys) }
     ensures { OnOk result (graphs_view made.new.entries ≡ graphs_put labels.now (names_view graphs.keys) (graphs_view made.old.entries)) }
@@ -91,7 +91,7 @@ fn make_nodes(
     alloc: Global,
     made: &mut Graphs,
     labels: &Labels,
-    nodes: IndexMap<NodeKey, PartEntry>,
+    nodes: IndexMap<NodeKey, PartEntry, Keyed>,
 ) -> Result<(), AllocError>
     requires own { AllByRecursion (NodeHasOwn labels.now) (nodes_view nodes.entries) }
     requires few { length labels.now ≤ 2 ^ 64 }

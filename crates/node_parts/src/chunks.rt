@@ -13,7 +13,7 @@ const CHUNKS: usize = 4_096;
 pub(crate) fn chunks_of(alloc: Global, items: Trees) -> Result<Vec<Trees>, AllocError>
     ensures { IfOk result (λ rows. flat_map (λ row. row) rows.items ≡ items) }
 {
-    let size = items.len() / CHUNKS + 1;
+    let size = items.len().saturating_sub(1) / CHUNKS + 1;
     let mut rows = Vec::new(alloc);
     let mut row = Trees::new(alloc);
     for item in items {

@@ -6,6 +6,7 @@
 #![tactic(auto)]
 
 mod chunks;
+mod digest;
 mod parts;
 
 pub use parts::node_map_by_parts;

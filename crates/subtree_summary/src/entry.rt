@@ -164,23 +164,26 @@ fn last_told(alloc: Global, log: &mut Vec<Told>, property: Name) -> Result<Told,
     ensures log { IfOk result (λ t. properties_view (log.new.items ++ t ∷ []) ≡ properties_joined (properties_view log.old.items) ((name_view property, []) ∷ [])) }
 {
     let Some(last) = log.pop() else {
-        return Ok(nothing_told(alloc, property));
+        let told = nothing_told(alloc, property)?;
+        return Ok(told);
     };
     if last.property == property {
         return Ok(last);
     }
     log.push(last)?;
-    Ok(nothing_told(alloc, property))
+    let told = nothing_told(alloc, property)?;
+    Ok(told)
 }
 
-fn nothing_told(alloc: Global, property: Name) -> Told
-    ensures property { result.property ≡ property }
-    ensures entries { result.entries.items ≡ [] }
+/// Nothing, of this property. There is room for one entry, since most properties have one.
+fn nothing_told(alloc: Global, property: Name) -> Result<Told, AllocError>
+    ensures property { IfOk result (λ t. t.property ≡ property) }
+    ensures entries { IfOk result (λ t. t.entries.items ≡ []) }
 {
-    Told {
+    Ok(Told {
         property,
-        entries: Vec::new(alloc),
-    }
+        entries: Vec::with_capacity(alloc, 1)?,
+    })
 }
 
 /// The index of a node, where a part has it and then a later one has: that of the earlier part stays.

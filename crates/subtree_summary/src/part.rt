@@ -9,27 +9,28 @@ ghost use Rattle.subtree_summary.specs.Log.{part_entry_view};
 ghost use Rattle.subtree_summary.specs.Parts.{same_code_key, part_view, nodes_view, nodes_joined, HasRoomAt};
 
 use crate::entry::PartEntry;
+use crate::keyed::Keyed;
 use indexmap::{IndexMap, IndexSet};
 use node_names::{Name, NodeKey};
 use std::alloc::{AllocError, Global};
 
-/// What operations say of graphs and nodes, each in the order of first use.
+/// What operations say of graphs and nodes, each in the order of first use. Both are looked up by hashes under a key.
 #[derive(Drop)]
 pub struct Part {
     /// The graphs that are made.
-    pub graphs: IndexSet<Name>,
+    pub graphs: IndexSet<Name, Keyed>,
     /// The nodes, each with what is said of it.
-    pub nodes: IndexMap<NodeKey, PartEntry>,
+    pub nodes: IndexMap<NodeKey, PartEntry, Keyed>,
 }
 
 impl Part {
-    /// What no operation says.
-    pub fn new(alloc: Global) -> Part
+    /// What no operation says. What is added is hashed by this hasher.
+    pub fn new(alloc: Global, hasher: Keyed) -> Part
         ensures { part_view result ≡ empty_sum }
     {
         Part {
-            graphs: IndexSet::new(alloc),
-            nodes: IndexMap::new(alloc),
+            graphs: IndexSet::with_hasher(alloc, hasher),
+            nodes: IndexMap::with_hasher(alloc, hasher),
         }
     }
 
@@ -57,7 +58,7 @@ impl Part {
 ///
 /// Only where memory is refused; then some of the later part's may be lost.
 pub fn put_node(
-    nodes: &mut IndexMap<NodeKey, PartEntry>,
+    nodes: &mut IndexMap<NodeKey, PartEntry, Keyed>,
     key: NodeKey,
     later: PartEntry,
 ) -> Result<(), AllocError>

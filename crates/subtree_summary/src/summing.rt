@@ -10,6 +10,7 @@ ghost use Rattle.subtree_summary.specs.Summing.{part_at, node_in, graph_in, one_
 ghost use Rattle.subtree_summary.specs.Uses.{uses_view};
 
 use crate::entry::{IndexAt, PartEntry, Telling};
+use crate::keyed::Keyed;
 use crate::part::Part;
 use crate::shards::shard_of;
 use crate::uses::LabelUses;
@@ -44,7 +45,8 @@ struct Sums {
 }
 
 /// The sums of the operations of the chunk with this number, one for each of so many shards, and the names in them that need labels, in the
-/// order of first use. What is said is moved and not copied. It takes a time linear in the operations.
+/// order of first use. What is said is moved and not copied. It takes a time linear in the operations, as long as few of their names collide
+/// under the key of the hasher. The key has no say in what comes out.
 ///
 /// # Errors
 ///
@@ -54,13 +56,14 @@ pub fn summarise_all(
     ops: Ops,
     chunk: u32,
     shards: u32,
+    hasher: Keyed,
 ) -> Result<Summary, AllocError>
     requires { (1 ≤ shards) × (shards ≤ 64) }
     ensures parts { IfOk result (λ s. ArePartsOf shards (placed chunk ops) s.parts.items) }
     ensures uses { IfOk result (λ s. uses_view s.uses ≡ used [] (uses_of_all ops)) }
 {
-    let mut uses = LabelUses::new(alloc);
-    let mut sums = Sums::new(alloc, shards)?;
+    let mut uses = LabelUses::new(alloc, hasher);
+    let mut sums = Sums::new(alloc, shards, hasher)?;
     let mut number = 0;
     for op in ops {
         uses.note(&op)?;
@@ -73,6 +76,10 @@ pub fn summarise_all(
 
 /// The same of operations that stay. Trees in them are copied.
 ///
+/// Names are hashed under the empty key, which everyone knows: a document whose names were chosen to collide under it makes each look-up go through
+/// all of them, so that summing takes a time quadratic in the names. Operations of a document that isn't trusted want [`summarise_all`], with a key
+/// of their own.
+///
 /// # Errors
 ///
 /// Only where memory is refused.
@@ -81,12 +88,12 @@ pub fn summarise(alloc: Global, ops: &Ops, chunk: u32, shards: u32) -> Result<Su
     ensures parts { IfOk result (λ s. ArePartsOf shards (placed chunk ops.now) s.parts.items) }
     ensures uses { IfOk result (λ s. uses_view s.uses ≡ used [] (uses_of_all ops.now)) }
 {
-    let summary = summarise_all(alloc, ops.copy(alloc)?, chunk, shards)?;
+    let summary = summarise_all(alloc, ops.copy(alloc)?, chunk, shards, Keyed::new(&[]))?;
     Ok(summary)
 }
 
 impl Sums {
-    fn new(alloc: Global, shards: u32) -> Result<Sums, AllocError>
+    fn new(alloc: Global, shards: u32, hasher: Keyed) -> Result<Sums, AllocError>
         requires { 0 < shards }
         ensures parts { IfOk result (λ s. length s.parts.items ≡ shards) }
         ensures shards { IfOk result (λ s. s.shards ≡ shards) }
@@ -94,7 +101,7 @@ impl Sums {
     {
         Ok(Sums {
             shards,
-            parts: empty_parts(alloc, shards)?,
+            parts: empty_parts(alloc, shards, hasher)?,
             last: None,
         })
     }
@@ -227,13 +234,13 @@ fn new_node(alloc: Global, key: NodeKey) -> LastNode
     }
 }
 
-fn empty_parts(alloc: Global, shards: u32) -> Result<Vec<Part>, AllocError>
+fn empty_parts(alloc: Global, shards: u32, hasher: Keyed) -> Result<Vec<Part>, AllocError>
     ensures length { IfOk result (λ parts. length parts.items ≡ shards) }
     ensures empty { IfOk result (λ parts. (k : ℕ) → part_at parts.items k ≡ empty_sum) }
 {
     let mut parts = Vec::new(alloc);
     for _ in 0..shards {
-        parts.push(Part::new(alloc))?;
+        parts.push(Part::new(alloc, hasher))?;
     }
     Ok(parts)
 }

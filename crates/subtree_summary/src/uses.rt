@@ -5,6 +5,7 @@ ghost use Rattle.op_model.specs.Running.{with_name, used, uses, uses_of_entry};
 ghost use Rattle.node_names.specs.View.{name_view, entry_view, op_view};
 ghost use Rattle.subtree_summary.specs.Uses.{uses_view, uses_of_list};
 
+use crate::keyed::Keyed;
 use indexmap::IndexSet;
 use node_names::{Entries, Entry, Name, Op};
 use std::alloc::{AllocError, Global};
@@ -13,16 +14,16 @@ use std::alloc::{AllocError, Global};
 #[derive(Drop)]
 pub struct LabelUses {
     /// The names.
-    pub names: IndexSet<Name>,
+    pub names: IndexSet<Name, Keyed>,
 }
 
 impl LabelUses {
-    /// No name.
-    pub fn new(alloc: Global) -> LabelUses
+    /// No name. Those that are noted are hashed by this hasher.
+    pub fn new(alloc: Global, hasher: Keyed) -> LabelUses
         ensures { uses_view result ≡ [] }
     {
         LabelUses {
-            names: IndexSet::new(alloc),
+            names: IndexSet::with_hasher(alloc, hasher),
         }
     }
 

@@ -11,7 +11,7 @@ use crate::run::Run;
 use indexmap::IndexMap;
 use ld_tree::Text;
 use node_names::{Name, NodeKey};
-use subtree_summary::{IndexAt, PartEntry};
+use subtree_summary::{IndexAt, Keyed, PartEntry};
 
 /// An operation sets a second index of a node, which differs from the first (JSON-LD 1.1 API, section 7.2, step 6.8).
 #[derive(Clone, Copy)]
@@ -35,7 +35,7 @@ pub fn first_conflict(run: &Run) -> Option<ConflictAt<'_>>
     first_of(&run.part().nodes)
 }
 
-fn first_of(nodes: &IndexMap<NodeKey, PartEntry>) -> Option<ConflictAt<'_>>
+fn first_of(nodes: &IndexMap<NodeKey, PartEntry, Keyed>) -> Option<ConflictAt<'_>>
     ensures { conflict_view result ≡ earliest (nodes_view nodes.now.entries) }
 {
     let mut first = None;

@@ -16,7 +16,7 @@ ghost use Rattle.summary_merge.specs.Room.{HasRoomForAll, HasRoomForPart};
 use indexmap::{IndexMap, IndexSet};
 use node_names::{Name, NodeKey};
 use std::alloc::AllocError;
-use subtree_summary::{Part, PartEntry, put_node};
+use subtree_summary::{Keyed, Part, PartEntry, put_node};
 
 /// Two parts that weren't put together, since there was no memory.
 #[derive(Drop)]
@@ -25,7 +25,7 @@ pub(crate) struct Apart {
     pub(crate) later: Part,
 }
 
-/// The earlier part with the later one moved into it. Where memory is refused, both come back as they were.
+/// The earlier part with the later one moved into it, hashed as the earlier one is. Where memory is refused, both come back as they were.
 pub(crate) fn merge_parts(earlier: Part, later: Part) -> Result<Part, Apart>
     ensures ok { IfOk result (λ part. part_view part ≡ join (part_view earlier) (part_view later)) }
     ensures err { IfErr result (λ apart. (part_view apart.earlier ≡ part_view earlier) × (part_view apart.later ≡ part_view later)) }
@@ -56,8 +56,8 @@ fn make_room(part: &mut Part, later: &Part) -> Result<(), AllocError>
 
 /// Makes room at each node that both have.
 fn make_room_at_all(
-    nodes: &mut IndexMap<NodeKey, PartEntry>,
-    later: &IndexMap<NodeKey, PartEntry>,
+    nodes: &mut IndexMap<NodeKey, PartEntry, Keyed>,
+    later: &IndexMap<NodeKey, PartEntry, Keyed>,
 ) -> Result<(), AllocError>
     ensures same { nodes_view nodes.new.entries ≡ nodes_view nodes.old.entries }
     ensures room { OnOk result (HasRoomForAll nodes.new.entries later.now.entries) }
@@ -70,7 +70,7 @@ fn make_room_at_all(
 
 /// Makes room at this node, where it is there.
 fn make_room_at(
-    nodes: &mut IndexMap<NodeKey, PartEntry>,
+    nodes: &mut IndexMap<NodeKey, PartEntry, Keyed>,
     key: &NodeKey,
     later: &PartEntry,
 ) -> Result<(), AllocError>
@@ -98,7 +98,7 @@ fn move_in(part: &mut Part, later: Part)
     move_nodes_in(&mut part.nodes, nodes);
 }
 
-fn move_graphs_in(graphs: &mut IndexSet<Name>, later: IndexSet<Name>)
+fn move_graphs_in(graphs: &mut IndexSet<Name, Keyed>, later: IndexSet<Name, Keyed>)
     requires { length later.keys ≤ sets.spare graphs.old }
     ensures { names_view graphs.new.keys ≡ lists_joined same_name (names_view graphs.old.keys) (names_view later.keys) }
 {
@@ -107,7 +107,7 @@ fn move_graphs_in(graphs: &mut IndexSet<Name>, later: IndexSet<Name>)
     }
 }
 
-fn push_graph(graphs: &mut IndexSet<Name>, graph: Name)
+fn push_graph(graphs: &mut IndexSet<Name, Keyed>, graph: Name)
     requires { 0 < sets.spare graphs.old }
     ensures keys { graphs.new.keys ≡ insert_key same_code_name graphs.old.keys graph }
     ensures spare { sets.spare graphs.old ≤ sets.spare graphs.new + 1 }
@@ -115,7 +115,10 @@ fn push_graph(graphs: &mut IndexSet<Name>, graph: Name)
     graphs.insert(graph).unwrap();
 }
 
-fn move_nodes_in(nodes: &mut IndexMap<NodeKey, PartEntry>, later: IndexMap<NodeKey, PartEntry>)
+fn move_nodes_in(
+    nodes: &mut IndexMap<NodeKey, PartEntry, Keyed>,
+    later: IndexMap<NodeKey, PartEntry, Keyed>,
+)
     requires { (length later.entries ≤ spare nodes.old) × HasRoomForAll nodes.old.entries later.entries }
     ensures { nodes_view nodes.new.entries ≡ nodes_joined (nodes_view nodes.old.entries) (nodes_view later.entries) }
 {
@@ -124,7 +127,7 @@ fn move_nodes_in(nodes: &mut IndexMap<NodeKey, PartEntry>, later: IndexMap<NodeK
     }
 }
 
-fn push_node(nodes: &mut IndexMap<NodeKey, PartEntry>, key: NodeKey, later: PartEntry)
+fn push_node(nodes: &mut IndexMap<NodeKey, PartEntry, Keyed>, key: NodeKey, later: PartEntry)
     requires { (0 < spare nodes.old) × HasRoomAt nodes.old.entries key later }
     ensures joined { nodes_view nodes.new.entries ≡ nodes_joined (nodes_view nodes.old.entries) ((key_view key, part_entry_view later) ∷ []) }
     ensures others { (k : code.NodeKey) → same_code_key k key ≡ false → lookup (same_code_key k) nodes.new.entries ≡ lookup (same_code_key k) nodes.old.entries }

@@ -7,9 +7,9 @@ use crate::merging::{Apart, merge_parts};
 use job_core::{Merge, Unmerged};
 use std::alloc::{AllocError, Global};
 use std::marker::Model;
-use subtree_summary::Part;
+use subtree_summary::{Keyed, Part};
 
-/// What the operations of neighbouring chunks say in a shard.
+/// What the operations of neighbouring chunks say in a shard. A merge keeps the hasher of the earlier run, also where that is empty.
 #[derive(Drop)]
 pub struct Run {
     start: u32,
@@ -77,11 +77,12 @@ impl Merge for Run {
 
     ghost both = { runs_joined };
 
+    /// The run of no chunk, at this one. It hashes names under the empty key, and so does what is merged into it.
     fn empty(alloc: Global, at: u32) -> Run {
         Run {
             start: at,
             end: at,
-            part: Part::new(alloc),
+            part: Part::new(alloc, Keyed::new(&[])),
         }
     }
 

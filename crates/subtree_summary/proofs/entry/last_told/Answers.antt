@@ -18,5 +18,5 @@ returns-then-eq-clause-log c =
 pub returns-clause-log : goal.returns-clause-log
 returns-clause-log c =
     let whole : c.args.log.now.items ≡ c.pop.new.self.items ++ c.in-Some.last ∷ [] = c.pop.ensures.items ∙ ap (λ o. c.pop.new.self.items ++ option_to_list o) c.in-Some.is in
-    nothing_behind c.push.new.self.items c.nothing_told-2.result (name_view c.args.property) (ap name_view c.nothing_told-2.ensures.property) c.nothing_told-2.ensures.entries
+    nothing_behind c.push.new.self.items c.in_ok-told-2.told (name_view c.args.property) (ap name_view c.in_ok-told-2.ensures.property) c.in_ok-told-2.ensures.entries
     ∙ ap (λ l. properties_joined (properties_view l) ((name_view c.args.property, []) ∷ [])) (c.in_ok-push.ensures.items ∙ sym whole)
