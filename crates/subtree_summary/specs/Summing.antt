@@ -6,11 +6,13 @@ use Rattle.sum_model.specs.Sums.{Place, Key, Sum, empty_sum, join, at_node, sum_
 use Rattle.sum_model.specs.Shards.{in_shard, falls_in}
 use Rattle.op_model.specs.Names.{Name}
 use Rattle.op_model.specs.Ops.{Op}
-use Rattle.node_names.specs.View.{key_view}
+use Rattle.node_names.specs.View.{name_view, key_view}
 use Rattle.subtree_summary.specs.declared.part.Part.{Part}
+use Rattle.subtree_summary.specs.declared.saying.Saying.{Saying}
+use Rattle.subtree_summary.specs.declared.saying.Saying.TheVariants.{Nothing, Graph, Node}
 use Rattle.subtree_summary.specs.declared.summing.LastNode.{LastNode}
 use Rattle.subtree_summary.specs.declared.summing.Sums.{Sums}
-use Rattle.subtree_summary.specs.Log.{part_entry_view}
+use Rattle.subtree_summary.specs.Log.{part_entry_view, said}
 use Rattle.subtree_summary.specs.Parts.{part_view}
 
 -- What the part with this number says; nothing where there is none.
@@ -28,6 +30,12 @@ graph_in shards k graph = if in_shard shards k graph then record { graphs = grap
 -- What an operation says, where it falls in this shard.
 abbrev pub one_in : ℕ → ℕ → Place → Op → Sum
 one_in shards k at o = if falls_in (in_shard shards k) o then sum_of_one at o else empty_sum
+
+-- What an operation says, once it is told apart, where it falls in this shard.
+abbrev pub saying_in : ℕ → ℕ → Saying → Sum
+saying_in shards k Nothing = empty_sum
+saying_in shards k (Graph graph) = graph_in shards k (name_view graph)
+saying_in shards k (Node key telling) = node_in shards k (key_view key) (said telling)
 
 abbrev pub last_in : ℕ → ℕ → Option LastNode → Sum
 last_in shards k None = empty_sum

@@ -200,6 +200,18 @@ fn joined(earlier: Option<IndexAt>, later: Option<IndexAt>) -> Option<IndexAt>
 }
 
 impl IndexAt {
+    /// The index that this operation of this chunk sets, where no other is set.
+    pub(crate) fn new(chunk: u32, op: u64, index: Text) -> IndexAt
+        ensures { index_at_view result ≡ record { place = record { chunk = chunk; number = op }; text = index; conflict = None } }
+    {
+        IndexAt {
+            chunk,
+            op,
+            index,
+            conflict: None,
+        }
+    }
+
     /// This index, once a later one is set.
     fn followed_by(self, later: IndexAt) -> IndexAt
         ensures { index_at_view result ≡ joined_at (index_at_view self) (index_at_view later) }

@@ -11,6 +11,7 @@
 mod entry;
 mod keyed;
 mod part;
+mod saying;
 mod shards;
 mod summing;
 mod uses;

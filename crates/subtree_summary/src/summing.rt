@@ -9,12 +9,13 @@ ghost use Rattle.subtree_summary.specs.Parts.{ArePartsOf};
 ghost use Rattle.subtree_summary.specs.Summing.{part_at, node_in, graph_in, one_in, last_in, so_far};
 ghost use Rattle.subtree_summary.specs.Uses.{uses_view};
 
-use crate::entry::{IndexAt, PartEntry, Telling};
+use crate::entry::{PartEntry, Telling};
 use crate::keyed::Keyed;
 use crate::part::Part;
+use crate::saying::{Saying, saying_of};
 use crate::shards::shard_of;
 use crate::uses::LabelUses;
-use node_names::{Entry, Name, NodeKey, Op, Ops};
+use node_names::{Name, NodeKey, Op, Ops};
 use std::alloc::{AllocError, Global};
 
 /// What the operations of a chunk add to a node map.
@@ -112,63 +113,14 @@ impl Sums {
         ensures kept { OnOk result ((self.new.shards ≡ self.old.shards) × (length self.new.parts.items ≡ length self.old.parts.items)) }
         ensures said { OnOk result ((k : ℕ) → so_far self.new k ≡ join (so_far self.old k) (one_in self.old.shards k (record { chunk = chunk; number = number }) (op_view op))) }
     {
-        match op {
-            Op::UseLabel { name: _ } => Ok(()),
-            Op::EnsureGraph { graph } => {
+        match saying_of(chunk, number, op) {
+            Saying::Nothing => Ok(()),
+            Saying::Graph(graph) => {
                 put_graph(&mut self.parts, self.shards, graph)?;
                 Ok(())
             }
-            Op::EnsureNode { graph, node } => {
-                self.tell(alloc, NodeKey { graph, node }, Telling::Nothing)?;
-                Ok(())
-            }
-            Op::EnsureProperty {
-                graph,
-                node,
-                property,
-            } => {
-                self.tell(alloc, NodeKey { graph, node }, Telling::Property(property))?;
-                Ok(())
-            }
-            Op::AddEntry {
-                graph,
-                node,
-                property,
-                entry,
-            } => {
-                self.tell(
-                    alloc,
-                    NodeKey { graph, node },
-                    Telling::Entry(property, entry),
-                )?;
-                Ok(())
-            }
-            Op::AppendList {
-                graph,
-                node,
-                property,
-                list,
-            } => {
-                let entry = Entry::List(list);
-                self.tell(
-                    alloc,
-                    NodeKey { graph, node },
-                    Telling::Entry(property, entry),
-                )?;
-                Ok(())
-            }
-            Op::AddType { graph, node, name } => {
-                self.tell(alloc, NodeKey { graph, node }, Telling::TypeName(name))?;
-                Ok(())
-            }
-            Op::SetIndex { graph, node, index } => {
-                let index = IndexAt {
-                    chunk,
-                    op: number,
-                    index,
-                    conflict: None,
-                };
-                self.tell(alloc, NodeKey { graph, node }, Telling::Index(index))?;
+            Saying::Node(key, telling) => {
+                self.tell(alloc, key, telling)?;
                 Ok(())
             }
         }

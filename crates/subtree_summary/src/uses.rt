@@ -32,33 +32,16 @@ impl LabelUses {
         ensures { OnOk result (uses_view self.new ≡ used (uses_view self.old) (uses (op_view op.now))) }
     {
         match op {
-            Op::UseLabel { name } | Op::EnsureGraph { graph: name } => {
-                self.note_name(name)?;
-                Ok(())
+            Op::UseLabel { name } | Op::EnsureGraph { graph: name } => self.note_name(name)?,
+            Op::EnsureNode { graph, node } | Op::SetIndex { graph, node, .. } => {
+                self.note_node(graph, node)?;
             }
-            Op::EnsureNode { graph, node }
-            | Op::SetIndex {
-                graph,
-                node,
-                index: _,
-            } => {
-                self.note_name(graph)?;
-                self.note_name(node)?;
-                Ok(())
-            }
+            Op::AddType { graph, node, name } => self.note_names(graph, node, name)?,
             Op::EnsureProperty {
                 graph,
                 node,
-                property: third,
-            }
-            | Op::AddType {
-                graph,
-                node,
-                name: third,
-            } => {
-                self.note_names(graph, node, third)?;
-                Ok(())
-            }
+                property,
+            } => self.note_names(graph, node, property)?,
             Op::AddEntry {
                 graph,
                 node,
@@ -67,7 +50,6 @@ impl LabelUses {
             } => {
                 self.note_names(graph, node, property)?;
                 note_entry(self, entry)?;
-                Ok(())
             }
             Op::AppendList {
                 graph,
@@ -77,9 +59,17 @@ impl LabelUses {
             } => {
                 self.note_names(graph, node, property)?;
                 note_entries(self, list)?;
-                Ok(())
             }
         }
+        Ok(())
+    }
+
+    fn note_node(&mut self, graph: &Name, node: &Name) -> Result<(), AllocError>
+        ensures { OnOk result (uses_view self.new ≡ used (used (uses_view self.old) (blank (name_view graph.now))) (blank (name_view node.now))) }
+    {
+        self.note_name(graph)?;
+        self.note_name(node)?;
+        Ok(())
     }
 
     fn note_names(&mut self, graph: &Name, node: &Name, third: &Name) -> Result<(), AllocError>
