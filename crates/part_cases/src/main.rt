@@ -1,0 +1,84 @@
+//! Makes node maps of documents in parts, in every way, and compares them with node map generation at once (JSON-LD 1.1 API, section 7.2). It
+//! reads cases from standard input, a line each: a word, and an expanded document of at most eight items.
+//!
+//! | Word | What it does | What it writes |
+//! |---|---|---|
+//! | `ways` | divides the items into chunks, merges the runs of each shard, renames them and joins the shards, in each of the ways below | how many ways there are, whether all give what generation gives, and that |
+//! | `sides` | takes each item as a chunk of its own, merges the runs of each shard from the left and from the right, and renames them | how many shards there are, of one to four, and whether both give the same shard each time |
+//!
+//! A way is a division of the items, an order of merging, a number of shards, and an order in which the shards are joined:
+//!
+//! - each division into one to five rows of neighbouring items, and where there are fewer items than five, those dealt to more chunks too, so
+//!   that some chunks have none;
+//! - each bracketing of the chunks, and `merge_range`, which stands behind them;
+//! - one to four shards, and each order of these.
+//!
+//! Same is the node map by its compact text, with the count of labels, or the conflict of indexes with its node and both indexes. A run has a
+//! first conflict where generation ends with one, and else none has.
+//!
+//! A line that begins with `#` says what the cases behind it show, and is written as it is. An empty line is passed over.
+#![tactic(auto)]
+
+mod division;
+mod merging;
+mod outcome;
+mod sides;
+mod ways;
+
+use ld_json::{ReadRefusal, Tree, Trees, read_tree};
+use sides::both_sides;
+use std::alloc::{AllocError, Global};
+use std::io;
+use ways::all_ways;
+
+/// How many items a document has at most.
+const ITEMS: usize = 8;
+
+fn main(rt: HostRuntime) -> io::Result<()> {
+    for line in rt.lines(rt.alloc()) {
+        answer_line(&rt, line?.as_str())?;
+    }
+    Ok(())
+}
+
+/// Writes what a line of the input gives.
+fn answer_line(rt: &HostRuntime, line: &str) -> io::Result<()> {
+    if line.is_empty() {
+        return Ok(());
+    }
+    if line.starts_with('#') {
+        return println!(rt; "{line}");
+    }
+    let answer = answer_of(rt.alloc(), line)?;
+    println!(rt; "{line}\n  -> {answer}")
+}
+
+fn answer_of(alloc: Global, line: &str) -> Result<String, AllocError> {
+    let (word, text) = line.split_once(' ').unwrap_or((line, ""));
+    match document_of(alloc, text)? {
+        Some(items) => {
+            if word == "sides" {
+                both_sides(alloc, items)
+            } else {
+                all_ways(alloc, items)
+            }
+        }
+        None => format!(in alloc; "no case"),
+    }
+}
+
+/// The items of a document; None where the text is no array of so few items.
+fn document_of(alloc: Global, text: &str) -> Result<Option<Trees>, AllocError> {
+    match read_tree(alloc, text.as_bytes()) {
+        Ok(tree) => Ok(items_of(tree)),
+        Err(ReadRefusal::OutOfMemory) => Err(AllocError),
+        Err(_) => Ok(None),
+    }
+}
+
+fn items_of(tree: Tree) -> Option<Trees> {
+    match tree {
+        Tree::Items(items) => Some(items).filter(|items| items.len() <= ITEMS),
+        _ => None,
+    }
+}
