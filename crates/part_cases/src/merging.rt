@@ -24,7 +24,7 @@ pub(crate) struct ShardAt {
 /// How the runs of chunks are merged.
 #[derive(Clone, Copy)]
 pub(crate) enum Merging {
-    /// In the bracketing with this number: first those that end with an opening bracket right behind the first chunk.
+    /// In the bracketing with this number, counted from 0: the first one merges from the right, and the last one from the left.
     Bracketing(u32),
     /// By `merge_range`.
     Range,
