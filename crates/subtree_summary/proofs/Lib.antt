@@ -1,4 +1,5 @@
+pub mod AllTold
 pub mod Logs
 pub mod Parts
-pub mod Sums
+pub mod Joining
 pub mod Used

@@ -14,6 +14,12 @@ pub used-append : (held a b : List Name) → used held (a ++ b) ≡ used (used h
 used-append held [] b = refl
 used-append held (n ∷ ns) b = used-append (with_name held n) ns b
 
+-- Names of three fields, and then those of the fourth.
+pub used-fourth : (held a b c d : List Name) → used (used held (a ++ (b ++ c))) d ≡ used held (a ++ (b ++ (c ++ d)))
+used-fourth held a b c d =
+    ap (λ u. used u d) (used-append held a (b ++ c) ∙ used-append (used held a) b c)
+    ∙ sym (used-append held a (b ++ (c ++ d)) ∙ used-append (used held a) b (c ++ d) ∙ used-append (used (used held a) b) c d)
+
 -- A name that is among those that were used, and one that is put with them where it is new.
 pub already_used : (ks : List code.Name) (k : code.Name) → list_any (same_code_name k) ks ≡ true → names_view ks ≡ with_name (names_view ks) (name_view k)
 unfolding with_name

@@ -1,3 +1,4 @@
+pub mod OnTheWay
 pub mod Log
 pub mod Parts
 pub mod Summing

@@ -4,7 +4,7 @@ use Rattle.std.specs.Vec.{vec_len, vec_capacity}
 use Rattle.op_model.specs.Names.{Name, same_name}
 use Rattle.op_model.specs.Ops.{Entry}
 use Rattle.sum_model.specs.Sums as model
-use Rattle.sum_model.specs.Sums.{Place, Index, bare, same_entry, conflict_with, properties_joined}
+use Rattle.sum_model.specs.Sums.{Place, Index, same_entry, conflict_with, properties_joined}
 use Rattle.sum_laws.specs.Said.{once}
 use Rattle.node_names.specs.View.{name_view, names_view, entry_view, entries_view}
 use Rattle.subtree_summary.specs.declared.entry.SecondIndex.{SecondIndex}
@@ -12,7 +12,7 @@ use Rattle.subtree_summary.specs.declared.entry.IndexAt.{IndexAt}
 use Rattle.subtree_summary.specs.declared.entry.Told.{Told}
 use Rattle.subtree_summary.specs.declared.entry.PartEntry.{PartEntry}
 use Rattle.subtree_summary.specs.declared.entry.Telling.{Telling}
-use Rattle.subtree_summary.specs.declared.entry.Telling.TheVariants.{Nothing, Property, Entry as EntryOf, TypeName, Index as IndexOf}
+use Rattle.subtree_summary.specs.declared.entry.Telling.TheVariants.{Property, Entry as EntryOf, TypeName, Index as IndexOf}
 
 abbrev pub second_view : Option SecondIndex → Option (Place × List ℕ)
 second_view None = None
@@ -48,9 +48,8 @@ part_entry_view e = record {
 
 -- What an operation says of a node, as a part of it.
 abbrev pub said : Telling → model.PartEntry
-said Nothing = bare
-said (Property p) = record { types = []; index = None; properties = (name_view p, []) ∷ [] }
-said (EntryOf p e) = record { types = []; index = None; properties = (name_view p, entry_view e ∷ []) ∷ [] }
+said (Property p) = record { types = []; index = None; properties = (name_view p.now, []) ∷ [] }
+said (EntryOf p e) = record { types = []; index = None; properties = (name_view p.now, entry_view e ∷ []) ∷ [] }
 said (TypeName t) = record { types = name_view t ∷ []; index = None; properties = [] }
 said (IndexOf i) = record { types = []; index = Some (index_at_view i); properties = [] }
 

@@ -1,7 +1,8 @@
 -- The sum that a part stands for.
-use Rattle.std.specs.Prelude.{ℕ, ◌≡◌, List, Bool, length, slice_get, map as each, IfSome}
+use Rattle.std.specs.Prelude.{ℕ, ◌≡◌, List, Bool, Option, length, slice_get, option_map, map as each, IfSome}
+use Rattle.std.specs.List.{list_all}
 use Rattle.std.specs.Map.{lookup}
-use Rattle.op_model.specs.Names.{same_name}
+use Rattle.op_model.specs.Names.{Name, same_name}
 use Rattle.sum_model.specs.Joins.{maps_joined}
 use Rattle.sum_model.specs.Sums as model
 use Rattle.sum_model.specs.Sums.{Placed, Key, Sum, same_key, bare, part_entries_joined, sum}
@@ -29,6 +30,14 @@ part_view p = record { graphs = names_view p.graphs.keys; nodes = nodes_view p.n
 -- Nodes with what is said of them, and then a later part's.
 abbrev pub nodes_joined : List (Key × model.PartEntry) → List (Key × model.PartEntry) → List (Key × model.PartEntry)
 nodes_joined = maps_joined same_key bare part_entries_joined
+
+-- The node at an index.
+abbrev pub key_in : List (NodeKey × PartEntry) → ℕ → Option Key
+key_in es i = option_map (λ e. key_view e.0) (slice_get es i)
+
+-- All of these nodes fall among these names.
+abbrev pub all_fall : (Name → Bool) → List NodeKey → Bool
+all_fall here ks = list_all (λ k. here (name_view k.node)) ks
 
 -- Where nodes have this one, there is room for what a later part says of it.
 abbrev pub HasRoomAt : List (NodeKey × PartEntry) → NodeKey → PartEntry → Type 0

@@ -1,19 +1,16 @@
 -- What has been said so far, by shards.
-use Rattle.std.specs.Prelude.{ℕ, List, [], ◌∷◌, slice_get, if◌then◌else◌, Option, Some, None, option_map}
+use Rattle.std.specs.Prelude.{ℕ, ◌≡◌, List, [], ◌∷◌, true, slice_get, if◌then◌else◌, Option, option_map}
+use Rattle.std.specs.Map.{keys_of}
 use Rattle.sum_model.specs.Joins.{or_empty}
 use Rattle.sum_model.specs.Sums as model
-use Rattle.sum_model.specs.Sums.{Place, Key, Sum, empty_sum, join, at_node, sum_of_one}
+use Rattle.sum_model.specs.Sums.{Place, Key, Sum, empty_sum, at_node, sum_of_one}
 use Rattle.sum_model.specs.Shards.{in_shard, falls_in}
 use Rattle.op_model.specs.Names.{Name}
 use Rattle.op_model.specs.Ops.{Op}
-use Rattle.node_names.specs.View.{name_view, key_view}
+use Rattle.node_names.specs.declared.name.NodeKey.{NodeKey}
+use Rattle.subtree_summary.specs.declared.entry.PartEntry.{PartEntry}
 use Rattle.subtree_summary.specs.declared.part.Part.{Part}
-use Rattle.subtree_summary.specs.declared.saying.Saying.{Saying}
-use Rattle.subtree_summary.specs.declared.saying.Saying.TheVariants.{Nothing, Graph, Node}
-use Rattle.subtree_summary.specs.declared.summing.LastNode.{LastNode}
-use Rattle.subtree_summary.specs.declared.summing.Sums.{Sums}
-use Rattle.subtree_summary.specs.Log.{part_entry_view, said}
-use Rattle.subtree_summary.specs.Parts.{part_view}
+use Rattle.subtree_summary.specs.Parts.{part_view, key_in, all_fall}
 
 -- What the part with this number says; nothing where there is none.
 abbrev pub part_at : List Part → ℕ → Sum
@@ -31,16 +28,14 @@ graph_in shards k graph = if in_shard shards k graph then record { graphs = grap
 abbrev pub one_in : ℕ → ℕ → Place → Op → Sum
 one_in shards k at o = if falls_in (in_shard shards k) o then sum_of_one at o else empty_sum
 
--- What an operation says, once it is told apart, where it falls in this shard.
-abbrev pub saying_in : ℕ → ℕ → Saying → Sum
-saying_in shards k Nothing = empty_sum
-saying_in shards k (Graph graph) = graph_in shards k (name_view graph)
-saying_in shards k (Node key telling) = node_in shards k (key_view key) (said telling)
+-- The nodes of the part with this number, each with what is said of it.
+abbrev pub nodes_at : List Part → ℕ → List (NodeKey × PartEntry)
+nodes_at parts k = or_empty [] (option_map (λ p. p.nodes.entries) (slice_get parts k))
 
-abbrev pub last_in : ℕ → ℕ → Option LastNode → Sum
-last_in shards k None = empty_sum
-last_in shards k (Some n) = node_in shards k (key_view n.key) (part_entry_view n.entry)
+-- The node at this index of the part with this number.
+abbrev pub key_at : List Part → ℕ → ℕ → Option Key
+key_at parts k i = key_in (nodes_at parts k) i
 
--- What has been said in this shard: in its part, and of the node that came last.
-abbrev pub so_far : Sums → ℕ → Sum
-so_far s k = join (part_at s.parts.items k) (last_in s.shards k s.last)
+-- Each node stands in the part of its shard.
+abbrev pub AreInPlace : ℕ → List Part → Type 0
+AreInPlace shards parts = (k : ℕ) → all_fall (in_shard shards k) (keys_of (nodes_at parts k)) ≡ true

@@ -55,13 +55,11 @@ pub struct PartEntry {
 
 /// What an operation says of a node.
 #[derive(Drop)]
-pub(crate) enum Telling {
-    /// That it is there.
-    Nothing,
+pub(crate) enum Telling<'a> {
     /// That it has this property.
-    Property(Name),
+    Property(&'a Name),
     /// An entry of a property.
-    Entry(Name, Entry),
+    Entry(&'a Name, Entry),
     /// A type.
     TypeName(Name),
     /// Its index.
@@ -81,11 +79,10 @@ impl PartEntry {
     }
 
     /// Notes what is said of the node.
-    pub(crate) fn tell(&mut self, alloc: Global, telling: Telling) -> Result<(), AllocError>
-        ensures { OnOk result (part_entry_view self.new ≡ part_entries_joined (part_entry_view self.old) (said telling)) }
+    pub(crate) fn tell(&mut self, alloc: Global, telling: Telling<'_>) -> Result<(), AllocError>
+        ensures { OnOk result (part_entry_view self.new ≡ part_entries_joined (part_entry_view self.old) (said telling.entry)) }
     {
         match telling {
-            Telling::Nothing => Ok(()),
             Telling::Property(property) => {
                 tell_property(alloc, &mut self.told, property)?;
                 Ok(())
@@ -136,8 +133,8 @@ impl PartEntry {
     }
 }
 
-fn tell_property(alloc: Global, log: &mut Vec<Told>, property: Name) -> Result<(), AllocError>
-    ensures { OnOk result (properties_view log.new.items ≡ properties_joined (properties_view log.old.items) ((name_view property, []) ∷ [])) }
+fn tell_property(alloc: Global, log: &mut Vec<Told>, property: &Name) -> Result<(), AllocError>
+    ensures { OnOk result (properties_view log.new.items ≡ properties_joined (properties_view log.old.items) ((name_view property.now, []) ∷ [])) }
 {
     let last = last_told(alloc, log, property)?;
     log.push(last)?;
@@ -147,10 +144,10 @@ fn tell_property(alloc: Global, log: &mut Vec<Told>, property: Name) -> Result<(
 fn tell_entry(
     alloc: Global,
     log: &mut Vec<Told>,
-    property: Name,
+    property: &Name,
     entry: Entry,
 ) -> Result<(), AllocError>
-    ensures { OnOk result (properties_view log.new.items ≡ properties_joined (properties_view log.old.items) ((name_view property, entry_view entry ∷ []) ∷ [])) }
+    ensures { OnOk result (properties_view log.new.items ≡ properties_joined (properties_view log.old.items) ((name_view property.now, entry_view entry ∷ []) ∷ [])) }
 {
     let mut last = last_told(alloc, log, property)?;
     last.entries.push(entry)?;
@@ -159,15 +156,15 @@ fn tell_entry(
 }
 
 /// What was said last, taken from the end of the log, where it was said of this property; else nothing, of this property.
-fn last_told(alloc: Global, log: &mut Vec<Told>, property: Name) -> Result<Told, AllocError>
-    ensures property { IfOk result (λ t. name_view t.property ≡ name_view property) }
-    ensures log { IfOk result (λ t. properties_view (log.new.items ++ t ∷ []) ≡ properties_joined (properties_view log.old.items) ((name_view property, []) ∷ [])) }
+fn last_told(alloc: Global, log: &mut Vec<Told>, property: &Name) -> Result<Told, AllocError>
+    ensures property { IfOk result (λ t. name_view t.property ≡ name_view property.now) }
+    ensures log { IfOk result (λ t. properties_view (log.new.items ++ t ∷ []) ≡ properties_joined (properties_view log.old.items) ((name_view property.now, []) ∷ [])) }
 {
     let Some(last) = log.pop() else {
         let told = nothing_told(alloc, property)?;
         return Ok(told);
     };
-    if last.property == property {
+    if last.property == *property {
         return Ok(last);
     }
     log.push(last)?;
@@ -175,13 +172,13 @@ fn last_told(alloc: Global, log: &mut Vec<Told>, property: Name) -> Result<Told,
     Ok(told)
 }
 
-/// Nothing, of this property. There is room for one entry, since most properties have one.
-fn nothing_told(alloc: Global, property: Name) -> Result<Told, AllocError>
-    ensures property { IfOk result (λ t. t.property ≡ property) }
+/// Nothing, of this property, whose name is copied here. There is room for one entry, since most properties have one.
+fn nothing_told(alloc: Global, property: &Name) -> Result<Told, AllocError>
+    ensures property { IfOk result (λ t. name_view t.property ≡ name_view property.now) }
     ensures entries { IfOk result (λ t. t.entries.items ≡ []) }
 {
     Ok(Told {
-        property,
+        property: property.copy()?,
         entries: Vec::with_capacity(alloc, 1)?,
     })
 }

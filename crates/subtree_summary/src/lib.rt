@@ -1,8 +1,8 @@
 //! Sums of the operations of a chunk: what they add to a node map, by graphs and nodes in the order of first use (JSON-LD 1.1 API,
 //! section 7.2), divided into shards.
 //!
-//! [`summarise_all`] makes of operations a [`Part`] for each shard, and the names that need labels, in the order of first use. What a part
-//! has of a node is a log: things stand in it in the order in which they were said, and nothing is compared with what was said before. So
+//! [`Sums`] are told one operation after another, without a list of them, and come to a [`Summary`]: a [`Part`] for each shard, and the names
+//! that need labels, in the order of first use. [`summarise_all`] tells them the operations of a list. What a part has of a node is a log: things stand in it in the order in which they were said, and nothing is compared with what was said before. So
 //! summing takes a time linear in the operations, whatever is said twice. Contracts see a log as what is left of it without repeats.
 //!
 //! Names come from documents, which may be hostile. So the maps and sets of names hash under a key that the caller gives ([`Keyed`]).
@@ -11,7 +11,7 @@
 mod entry;
 mod keyed;
 mod part;
-mod saying;
+mod sharded;
 mod shards;
 mod summing;
 mod uses;
@@ -19,5 +19,5 @@ mod uses;
 pub use entry::{IndexAt, PartEntry, SecondIndex, Told};
 pub use keyed::Keyed;
 pub use part::{Part, put_node};
-pub use summing::{Summary, summarise, summarise_all};
+pub use summing::{Summary, Sums, summarise, summarise_all};
 pub use uses::LabelUses;

@@ -1,21 +1,20 @@
 // Summing operations, one after another.
-ghost use Rattle.std.specs.Prelude.{ℕ, ◌≡◌, ◌<◌, ◌≤◌, [], ◌∷◌, length, None, Some, OnOk, IfOk};
+ghost use Rattle.std.specs.Prelude.{ℕ, ◌≡◌, ◌+◌, ◌≤◌, [], length, slice_get, OnOk, IfOk, IfSome};
+ghost use Rattle.op_model.specs.Ops.{entries_of, use_label, ensure_graph, ensure_node, ensure_property, add_entry, append_list, add_type, set_index};
 ghost use Rattle.op_model.specs.Running.{used, uses_of_all};
-ghost use Rattle.sum_model.specs.Shards.{in_shard, ops_in};
-ghost use Rattle.sum_model.specs.Sums.{bare, join, empty_sum, placed, sum};
-ghost use Rattle.node_names.specs.View.{name_view, key_view, op_view};
-ghost use Rattle.subtree_summary.specs.Log.{said, part_entry_view};
-ghost use Rattle.subtree_summary.specs.Parts.{ArePartsOf};
-ghost use Rattle.subtree_summary.specs.Summing.{part_at, node_in, graph_in, one_in, last_in, so_far};
+ghost use Rattle.sum_model.specs.Sums.{placed};
+ghost use Rattle.node_names.specs.View.{name_view, entry_view, op_view};
+ghost use Rattle.subtree_summary.specs.OnTheWay.{nothing_said, tell, sums_view};
+ghost use Rattle.subtree_summary.specs.Parts.{part_view, ArePartsOf};
 ghost use Rattle.subtree_summary.specs.Uses.{uses_view};
 
-use crate::entry::{PartEntry, Telling};
+use crate::entry::{IndexAt, Telling};
 use crate::keyed::Keyed;
 use crate::part::Part;
-use crate::saying::{Saying, saying_of};
-use crate::shards::shard_of;
-use crate::uses::LabelUses;
-use node_names::{Name, NodeKey, Op, Ops};
+use crate::sharded::Sharded;
+use crate::uses::{LabelUses, note_entries, note_entry};
+use ld_tree::Text;
+use node_names::{Entries, Entry, Name, Op, Ops};
 use std::alloc::{AllocError, Global};
 
 /// What the operations of a chunk add to a node map.
@@ -27,22 +26,21 @@ pub struct Summary {
     pub uses: LabelUses,
 }
 
-/// A node of which something is being said. Operations of a node come in a row, so it is looked up once for the row.
+/// What the operations of a chunk said so far. They are told one after another, by a method for each kind (JSON-LD 1.1 API, section 7.2), and
+/// names are copied only where they are kept.
+///
+/// A method fails only where memory is refused, or where there would be more operations than 64 bits can count, which no run lives to see. What
+/// was said is of no use then.
 #[derive(Drop)]
-struct LastNode {
-    key: NodeKey,
-    entry: PartEntry,
-}
-
-/// What operations said so far.
-#[derive(Drop)]
-struct Sums {
-    /// How many shards there are.
-    shards: u32,
-    /// What was said before in each shard.
-    parts: Vec<Part>,
-    /// The node of which something was said last, with what was said of it since.
-    last: Option<LastNode>,
+pub struct Sums {
+    /// The number of the chunk.
+    chunk: u32,
+    /// How many operations there were.
+    number: u64,
+    /// What they said in each shard.
+    sharded: Sharded,
+    /// The names in them that need labels.
+    uses: LabelUses,
 }
 
 /// The sums of the operations of the chunk with this number, one for each of so many shards, and the names in them that need labels, in the
@@ -63,16 +61,11 @@ pub fn summarise_all(
     ensures parts { IfOk result (λ s. ArePartsOf shards (placed chunk ops) s.parts.items) }
     ensures uses { IfOk result (λ s. uses_view s.uses ≡ used [] (uses_of_all ops)) }
 {
-    let mut uses = LabelUses::new(alloc, hasher);
-    let mut sums = Sums::new(alloc, shards, hasher)?;
-    let mut number = 0;
+    let mut sums = Sums::new(alloc, chunk, shards, hasher)?;
     for op in ops {
-        uses.note(&op)?;
-        sums.add(alloc, chunk, number, op)?;
-        number += 1;
+        sums.add(alloc, op)?;
     }
-    let parts = sums.into_parts()?;
-    Ok(Summary { parts, uses })
+    Ok(sums.into_summary())
 }
 
 /// The same of operations that stay. Trees in them are copied.
@@ -94,126 +87,195 @@ pub fn summarise(alloc: Global, ops: &Ops, chunk: u32, shards: u32) -> Result<Su
 }
 
 impl Sums {
-    fn new(alloc: Global, shards: u32, hasher: Keyed) -> Result<Sums, AllocError>
-        requires { 0 < shards }
-        ensures parts { IfOk result (λ s. length s.parts.items ≡ shards) }
-        ensures shards { IfOk result (λ s. s.shards ≡ shards) }
-        ensures empty { IfOk result (λ s. (k : ℕ) → so_far s k ≡ empty_sum) }
+    /// What no operation of the chunk with this number says, in so many shards. Names are hashed by this hasher.
+    pub fn new(alloc: Global, chunk: u32, shards: u32, hasher: Keyed) -> Result<Sums, AllocError>
+        requires { (1 ≤ shards) × (shards ≤ 64) }
+        ensures { IfOk result (λ s. sums_view s ≡ nothing_said chunk shards) }
     {
         Ok(Sums {
-            shards,
-            parts: empty_parts(alloc, shards, hasher)?,
-            last: None,
+            chunk,
+            number: 0,
+            sharded: Sharded::new(alloc, shards, hasher)?,
+            uses: LabelUses::new(alloc, hasher),
         })
     }
 
-    /// Notes what an operation says.
-    fn add(&mut self, alloc: Global, chunk: u32, number: u64, op: Op) -> Result<(), AllocError>
-        requires { (0 < self.old.shards) × (length self.old.parts.items ≡ self.old.shards) }
-        ensures kept { OnOk result ((self.new.shards ≡ self.old.shards) × (length self.new.parts.items ≡ length self.old.parts.items)) }
-        ensures said { OnOk result ((k : ℕ) → so_far self.new k ≡ join (so_far self.old k) (one_in self.old.shards k (record { chunk = chunk; number = number }) (op_view op))) }
+    /// Notes that a label of the document is needed: that of a type, or of a reverse property.
+    pub fn use_label(&mut self, name: &Name) -> Result<(), AllocError>
+        ensures { OnOk result (sums_view self.new ≡ tell (use_label (name_view name.now)) (sums_view self.old)) }
     {
-        match saying_of(chunk, number, op) {
-            Saying::Nothing => Ok(()),
-            Saying::Graph(graph) => {
-                put_graph(&mut self.parts, self.shards, graph)?;
-                Ok(())
-            }
-            Saying::Node(key, telling) => {
-                self.tell(alloc, key, telling)?;
-                Ok(())
-            }
-        }
-    }
-
-    /// Notes what is said of a node.
-    fn tell(&mut self, alloc: Global, key: NodeKey, telling: Telling) -> Result<(), AllocError>
-        requires { (0 < self.old.shards) × (length self.old.parts.items ≡ self.old.shards) }
-        ensures kept { OnOk result ((self.new.shards ≡ self.old.shards) × (length self.new.parts.items ≡ length self.old.parts.items)) }
-        ensures said { OnOk result ((k : ℕ) → so_far self.new k ≡ join (so_far self.old k) (node_in self.old.shards k (key_view key) (said telling))) }
-    {
-        let mut node = self.node_at(alloc, key)?;
-        node.entry.tell(alloc, telling)?;
-        self.last = Some(node);
+        self.uses.note_name(name)?;
+        self.number = after(self.number)?;
         Ok(())
     }
 
-    /// The last node, where it is this one; else this one with nothing said of it, and the last one goes into its part.
-    fn node_at(&mut self, alloc: Global, key: NodeKey) -> Result<LastNode, AllocError>
-        requires { (0 < self.old.shards) × (length self.old.parts.items ≡ self.old.shards) }
-        ensures kept { OnOk result ((self.new.shards ≡ self.old.shards) × (length self.new.parts.items ≡ length self.old.parts.items)) }
-        ensures key { IfOk result (λ n. key_view n.key ≡ key_view key) }
-        ensures said { IfOk result (λ n. (k : ℕ) → join (part_at self.new.parts.items k) (last_in self.old.shards k (Some n)) ≡ join (so_far self.old k) (node_in self.old.shards k (key_view key) bare)) }
+    /// Notes that a graph is there (step 6.10).
+    pub fn ensure_graph(&mut self, graph: &Name) -> Result<(), AllocError>
+        ensures { OnOk result (sums_view self.new ≡ tell (ensure_graph (name_view graph.now)) (sums_view self.old)) }
     {
-        let last = match self.last.take() {
-            None => return Ok(new_node(alloc, key)),
-            Some(last) => last,
-        };
-        if last.key == key {
-            return Ok(last);
-        }
-        put_node_in(&mut self.parts, self.shards, last)?;
-        Ok(new_node(alloc, key))
+        self.uses.note_name(graph)?;
+        self.sharded.make_graph(graph)?;
+        self.number = after(self.number)?;
+        Ok(())
     }
 
-    /// The parts, once the last node is in its own.
-    fn into_parts(self) -> Result<Vec<Part>, AllocError>
-        requires { (0 < self.shards) × (length self.parts.items ≡ self.shards) }
-        ensures kept { IfOk result (λ parts. length parts.items ≡ self.shards) }
-        ensures said { IfOk result (λ parts. (k : ℕ) → part_at parts.items k ≡ so_far self k) }
+    /// Notes that a node of a graph is there (steps 6.3 and 6.4).
+    pub fn ensure_node(
+        &mut self,
+        alloc: Global,
+        graph: &Name,
+        node: &Name,
+    ) -> Result<(), AllocError>
+        ensures { OnOk result (sums_view self.new ≡ tell (ensure_node (name_view graph.now) (name_view node.now)) (sums_view self.old)) }
+    {
+        self.uses.note_node(graph, node)?;
+        self.sharded.make_node(alloc, graph, node)?;
+        self.number = after(self.number)?;
+        Ok(())
+    }
+
+    /// Notes that a node has a property (step 6.12.2).
+    pub fn ensure_property(
+        &mut self,
+        alloc: Global,
+        graph: &Name,
+        node: &Name,
+        property: &Name,
+    ) -> Result<(), AllocError>
+        ensures { OnOk result (sums_view self.new ≡ tell (ensure_property (name_view graph.now) (name_view node.now) (name_view property.now)) (sums_view self.old)) }
+    {
+        self.uses.note_names(graph, node, property)?;
+        let telling = Telling::Property(property);
+        self.sharded.tell(alloc, graph, node, telling)?;
+        self.number = after(self.number)?;
+        Ok(())
+    }
+
+    /// Notes a value or a reference of a property (steps 4.2, 6.5.2 and 6.6.3).
+    pub fn add_entry(
+        &mut self,
+        alloc: Global,
+        graph: &Name,
+        node: &Name,
+        property: &Name,
+        entry: Entry,
+    ) -> Result<(), AllocError>
+        ensures { OnOk result (sums_view self.new ≡ tell (add_entry (name_view graph.now) (name_view node.now) (name_view property.now) (entry_view entry)) (sums_view self.old)) }
+    {
+        self.uses.note_names(graph, node, property)?;
+        note_entry(&mut self.uses, &entry)?;
+        let telling = Telling::Entry(property, entry);
+        self.sharded.tell(alloc, graph, node, telling)?;
+        self.number = after(self.number)?;
+        Ok(())
+    }
+
+    /// Notes a list of a property (step 5.4).
+    pub fn append_list(
+        &mut self,
+        alloc: Global,
+        graph: &Name,
+        node: &Name,
+        property: &Name,
+        list: Entries,
+    ) -> Result<(), AllocError>
+        ensures { OnOk result (sums_view self.new ≡ tell (append_list (name_view graph.now) (name_view node.now) (name_view property.now) (entries_of list)) (sums_view self.old)) }
+    {
+        self.uses.note_names(graph, node, property)?;
+        note_entries(&mut self.uses, &list)?;
+        let telling = Telling::Entry(property, Entry::List(list));
+        self.sharded.tell(alloc, graph, node, telling)?;
+        self.number = after(self.number)?;
+        Ok(())
+    }
+
+    /// Notes a type of a node (step 6.7).
+    pub fn add_type(
+        &mut self,
+        alloc: Global,
+        graph: &Name,
+        node: &Name,
+        name: Name,
+    ) -> Result<(), AllocError>
+        ensures { OnOk result (sums_view self.new ≡ tell (add_type (name_view graph.now) (name_view node.now) (name_view name)) (sums_view self.old)) }
+    {
+        self.uses.note_names(graph, node, &name)?;
+        let telling = Telling::TypeName(name);
+        self.sharded.tell(alloc, graph, node, telling)?;
+        self.number = after(self.number)?;
+        Ok(())
+    }
+
+    /// Notes the index of a node (step 6.8).
+    pub fn set_index(
+        &mut self,
+        alloc: Global,
+        graph: &Name,
+        node: &Name,
+        index: Text,
+    ) -> Result<(), AllocError>
+        ensures { OnOk result (sums_view self.new ≡ tell (set_index (name_view graph.now) (name_view node.now) index) (sums_view self.old)) }
+    {
+        self.uses.note_node(graph, node)?;
+        let telling = Telling::Index(IndexAt::new(self.chunk, self.number, index));
+        self.sharded.tell(alloc, graph, node, telling)?;
+        self.number = after(self.number)?;
+        Ok(())
+    }
+
+    /// What was said, as parts of so many shards and names that need labels.
+    pub fn into_summary(self) -> Summary
+        ensures parts { (length result.parts.items ≡ (sums_view self).shards) × ((k : ℕ) → IfSome (slice_get result.parts.items k) (λ p. part_view p ≡ (sums_view self).said k)) }
+        ensures uses { uses_view result.uses ≡ (sums_view self).names }
     {
         let Sums {
-            shards,
-            mut parts,
-            last,
+            chunk: _,
+            number: _,
+            sharded,
+            uses,
         } = self;
-        let last = match last {
-            None => return Ok(parts),
-            Some(last) => last,
-        };
-        put_node_in(&mut parts, shards, last)?;
-        Ok(parts)
+        let parts = sharded.into_parts();
+        Summary { parts, uses }
+    }
+
+    /// Notes what an operation says.
+    fn add(&mut self, alloc: Global, op: Op) -> Result<(), AllocError>
+        ensures { OnOk result (sums_view self.new ≡ tell (op_view op) (sums_view self.old)) }
+    {
+        match op {
+            Op::UseLabel { name } => self.use_label(&name)?,
+            Op::EnsureGraph { graph } => self.ensure_graph(&graph)?,
+            Op::EnsureNode { graph, node } => self.ensure_node(alloc, &graph, &node)?,
+            Op::EnsureProperty {
+                graph,
+                node,
+                property,
+            } => self.ensure_property(alloc, &graph, &node, &property)?,
+            Op::AddEntry {
+                graph,
+                node,
+                property,
+                entry,
+            } => self.add_entry(alloc, &graph, &node, &property, entry)?,
+            Op::AppendList {
+                graph,
+                node,
+                property,
+                list,
+            } => self.append_list(alloc, &graph, &node, &property, list)?,
+            Op::AddType { graph, node, name } => self.add_type(alloc, &graph, &node, name)?,
+            Op::SetIndex { graph, node, index } => self.set_index(alloc, &graph, &node, index)?,
+        }
+        Ok(())
     }
 }
 
-fn new_node(alloc: Global, key: NodeKey) -> LastNode
-    ensures key { result.key ≡ key }
-    ensures bare { part_entry_view result.entry ≡ bare }
+/// How many operations there were, once there is one more.
+fn after(number: u64) -> Result<u64, AllocError>
+    ensures { IfOk result (λ n. n ≡ number + 1) }
 {
-    LastNode {
-        key,
-        entry: PartEntry::new(alloc),
+    match number.checked_add(1) {
+        Some(next) => Ok(next),
+        None => Err(AllocError),
     }
-}
-
-fn empty_parts(alloc: Global, shards: u32, hasher: Keyed) -> Result<Vec<Part>, AllocError>
-    ensures length { IfOk result (λ parts. length parts.items ≡ shards) }
-    ensures empty { IfOk result (λ parts. (k : ℕ) → part_at parts.items k ≡ empty_sum) }
-{
-    let mut parts = Vec::new(alloc);
-    for _ in 0..shards {
-        parts.push(Part::new(alloc, hasher))?;
-    }
-    Ok(parts)
-}
-
-fn put_graph(parts: &mut Vec<Part>, shards: u32, graph: Name) -> Result<(), AllocError>
-    requires { (0 < shards) × (length parts.old.items ≡ shards) }
-    ensures kept { OnOk result (length parts.new.items ≡ length parts.old.items) }
-    ensures said { OnOk result ((k : ℕ) → part_at parts.new.items k ≡ join (part_at parts.old.items k) (graph_in shards k (name_view graph))) }
-{
-    let shard = shard_of(&graph, shards) as usize;
-    parts[shard].add_graph(graph)?;
-    Ok(())
-}
-
-fn put_node_in(parts: &mut Vec<Part>, shards: u32, node: LastNode) -> Result<(), AllocError>
-    requires { (0 < shards) × (length parts.old.items ≡ shards) }
-    ensures kept { OnOk result (length parts.new.items ≡ length parts.old.items) }
-    ensures said { OnOk result ((k : ℕ) → part_at parts.new.items k ≡ join (part_at parts.old.items k) (node_in shards k (key_view node.key) (part_entry_view node.entry))) }
-{
-    let LastNode { key, entry } = node;
-    let shard = shard_of(&key.node, shards) as usize;
-    parts[shard].add_node(key, entry)?;
-    Ok(())
 }

@@ -1,13 +1,13 @@
 // The names that need labels, in the order of first use.
-ghost use Rattle.std.specs.Prelude.{◌≡◌, [], OnOk};
+ghost use Rattle.std.specs.Prelude.{◌≡◌, [], ◌++◌, OnOk};
 ghost use Rattle.op_model.specs.Names.{blank};
-ghost use Rattle.op_model.specs.Running.{with_name, used, uses, uses_of_entry};
-ghost use Rattle.node_names.specs.View.{name_view, entry_view, op_view};
+ghost use Rattle.op_model.specs.Running.{with_name, used, uses_of_entry};
+ghost use Rattle.node_names.specs.View.{name_view, entry_view};
 ghost use Rattle.subtree_summary.specs.Uses.{uses_view, uses_of_list};
 
 use crate::keyed::Keyed;
 use indexmap::IndexSet;
-use node_names::{Entries, Entry, Name, Op};
+use node_names::{Entries, Entry, Name};
 use std::alloc::{AllocError, Global};
 
 /// Names that need labels, each once, in the order of first use.
@@ -27,53 +27,23 @@ impl LabelUses {
         }
     }
 
-    /// Notes the names that an operation uses, in the order of its fields.
-    pub(crate) fn note(&mut self, op: &Op) -> Result<(), AllocError>
-        ensures { OnOk result (uses_view self.new ≡ used (uses_view self.old) (uses (op_view op.now))) }
-    {
-        match op {
-            Op::UseLabel { name } | Op::EnsureGraph { graph: name } => self.note_name(name)?,
-            Op::EnsureNode { graph, node } | Op::SetIndex { graph, node, .. } => {
-                self.note_node(graph, node)?;
-            }
-            Op::AddType { graph, node, name } => self.note_names(graph, node, name)?,
-            Op::EnsureProperty {
-                graph,
-                node,
-                property,
-            } => self.note_names(graph, node, property)?,
-            Op::AddEntry {
-                graph,
-                node,
-                property,
-                entry,
-            } => {
-                self.note_names(graph, node, property)?;
-                note_entry(self, entry)?;
-            }
-            Op::AppendList {
-                graph,
-                node,
-                property,
-                list,
-            } => {
-                self.note_names(graph, node, property)?;
-                note_entries(self, list)?;
-            }
-        }
-        Ok(())
-    }
-
-    fn note_node(&mut self, graph: &Name, node: &Name) -> Result<(), AllocError>
-        ensures { OnOk result (uses_view self.new ≡ used (used (uses_view self.old) (blank (name_view graph.now))) (blank (name_view node.now))) }
+    /// Notes a graph and a node.
+    pub(crate) fn note_node(&mut self, graph: &Name, node: &Name) -> Result<(), AllocError>
+        ensures { OnOk result (uses_view self.new ≡ used (uses_view self.old) (blank (name_view graph.now) ++ blank (name_view node.now))) }
     {
         self.note_name(graph)?;
         self.note_name(node)?;
         Ok(())
     }
 
-    fn note_names(&mut self, graph: &Name, node: &Name, third: &Name) -> Result<(), AllocError>
-        ensures { OnOk result (uses_view self.new ≡ used (used (used (uses_view self.old) (blank (name_view graph.now))) (blank (name_view node.now))) (blank (name_view third.now))) }
+    /// Notes a graph, a node, and a property or a type.
+    pub(crate) fn note_names(
+        &mut self,
+        graph: &Name,
+        node: &Name,
+        third: &Name,
+    ) -> Result<(), AllocError>
+        ensures { OnOk result (uses_view self.new ≡ used (uses_view self.old) (blank (name_view graph.now) ++ (blank (name_view node.now) ++ blank (name_view third.now)))) }
     {
         self.note_name(graph)?;
         self.note_name(node)?;
@@ -81,7 +51,8 @@ impl LabelUses {
         Ok(())
     }
 
-    fn note_name(&mut self, name: &Name) -> Result<(), AllocError>
+    /// Notes a name, where it needs a label. It is copied where it is new.
+    pub(crate) fn note_name(&mut self, name: &Name) -> Result<(), AllocError>
         ensures { OnOk result (uses_view self.new ≡ used (uses_view self.old) (blank (name_view name.now))) }
     {
         if !name.is_blank() {
@@ -104,7 +75,7 @@ impl LabelUses {
 
 /// Notes the names that an entry uses, those of a list in the order of its entries.
 #[cycle(note)]
-fn note_entry(uses: &mut LabelUses, entry: &Entry) -> Result<(), AllocError>
+pub(crate) fn note_entry(uses: &mut LabelUses, entry: &Entry) -> Result<(), AllocError>
     ensures { OnOk result (uses_view uses.new ≡ used (uses_view uses.old) (uses_of_entry (entry_view entry.now))) }
 {
     match entry {
@@ -120,8 +91,9 @@ fn note_entry(uses: &mut LabelUses, entry: &Entry) -> Result<(), AllocError>
     }
 }
 
+/// Notes the names that the entries of a list use, in their order.
 #[cycle(note)]
-fn note_entries(uses: &mut LabelUses, entries: &Entries) -> Result<(), AllocError>
+pub(crate) fn note_entries(uses: &mut LabelUses, entries: &Entries) -> Result<(), AllocError>
     ensures { OnOk result (uses_view uses.new ≡ used (uses_view uses.old) (uses_of_list entries.now)) }
 {
     for entry in entries {

@@ -10,13 +10,13 @@ use Rattle.subtree_summary.proofs.entry.last_told.Goals as goal
 
 pub returns-then-eq-clause-log : goal.returns-then-eq-clause-log
 returns-then-eq-clause-log c =
-    let same : same_name (name_view c.in-Some.last.property) (name_view c.args.property) ≡ true = search rules in
-    let is : name_view c.in-Some.last.property ≡ name_view c.args.property = same_name-exact (name_view c.in-Some.last.property) (name_view c.args.property) same in
+    let same : same_name (name_view c.in-Some.last.property) (name_view c.args.property.now) ≡ true = search rules in
+    let is : name_view c.in-Some.last.property ≡ name_view c.args.property.now = same_name-exact (name_view c.in-Some.last.property) (name_view c.args.property.now) same in
     let whole : c.args.log.now.items ≡ c.pop.new.self.items ++ c.in-Some.last ∷ [] = c.pop.ensures.items ∙ ap (λ o. c.pop.new.self.items ++ option_to_list o) c.in-Some.is in
-    ends_with c.pop.new.self.items c.in-Some.last (name_view c.args.property) is ∙ ap (λ l. properties_joined (properties_view l) ((name_view c.args.property, []) ∷ [])) (sym whole)
+    ends_with c.pop.new.self.items c.in-Some.last (name_view c.args.property.now) is ∙ ap (λ l. properties_joined (properties_view l) ((name_view c.args.property.now, []) ∷ [])) (sym whole)
 
 pub returns-clause-log : goal.returns-clause-log
 returns-clause-log c =
     let whole : c.args.log.now.items ≡ c.pop.new.self.items ++ c.in-Some.last ∷ [] = c.pop.ensures.items ∙ ap (λ o. c.pop.new.self.items ++ option_to_list o) c.in-Some.is in
-    nothing_behind c.push.new.self.items c.in_ok-told-2.told (name_view c.args.property) (ap name_view c.in_ok-told-2.ensures.property) c.in_ok-told-2.ensures.entries
-    ∙ ap (λ l. properties_joined (properties_view l) ((name_view c.args.property, []) ∷ [])) (c.in_ok-push.ensures.items ∙ sym whole)
+    nothing_behind c.push.new.self.items c.in_ok-told-2.told (name_view c.args.property.now) c.in_ok-told-2.ensures.property c.in_ok-told-2.ensures.entries
+    ∙ ap (λ l. properties_joined (properties_view l) ((name_view c.args.property.now, []) ∷ [])) (c.in_ok-push.ensures.items ∙ sym whole)

@@ -8,11 +8,6 @@ use Rattle.subtree_summary.specs.Log.{index_view, index_at_view, properties_view
 use Rattle.subtree_summary.proofs.Logs.{types-append}
 use Rattle.subtree_summary.proofs.entry.PartEntry.tell.Goals as goal
 
-pub returns-in-Nothing : goal.returns-in-Nothing
-returns-in-Nothing c =
-    let old = part_entry_view c.args.self.now in
-    sym (laws.part_entries.right old) ∙ ap (λ t. part_entries_joined old (said t)) (sym c.in-Nothing.is)
-
 pub returns-in_ok-push-in-TypeName : goal.returns-in_ok-push-in-TypeName
 returns-in_ok-push-in-TypeName c =
     let e = c.args.self.now in

@@ -1,8 +1,8 @@
 use Rattle.std.proofs.Common.{[], ◌∷◌, ◌+◌, length, ap, ◌∙◌}
 use Rattle.std.proofs.lemmas.List.{length-append}
 use Rattle.subtree_summary.specs.Summing.{part_at}
-use Rattle.subtree_summary.proofs.Sums.{all_empty}
-use Rattle.subtree_summary.proofs.summing.empty_parts.Goals as goal
+use Rattle.subtree_summary.proofs.Joining.{all_empty}
+use Rattle.subtree_summary.proofs.sharded.empty_parts.Goals as goal
 
 pub loop-preserved : goal.loop-preserved
 loop-preserved c = record {
