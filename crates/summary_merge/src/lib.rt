@@ -5,9 +5,10 @@
 //! runs as they were.
 #![tactic(auto)]
 
+mod adding;
 mod conflict;
 mod merging;
 mod run;
 
 pub use conflict::{ConflictAt, first_conflict};
-pub use run::{Run, merge_range};
+pub use run::{Run, merge_next, merge_range};

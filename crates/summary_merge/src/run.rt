@@ -1,15 +1,18 @@
 // Runs.
 ghost use Rattle.std.specs.Prelude.{◌≡◌, ◌+◌, ◌<◌, IfOk};
+ghost use Rattle.sum_model.specs.Sums.{empty_sum};
 ghost use Rattle.subtree_summary.specs.Parts.{part_view};
 ghost use Rattle.summary_merge.specs.Runs.{AreNeighbours, runs_joined, all_joined};
 
+use crate::adding::add_part;
 use crate::merging::{Apart, merge_parts};
 use job_core::{Merge, Unmerged};
 use std::alloc::{AllocError, Global};
 use std::marker::Model;
 use subtree_summary::{Keyed, Part};
 
-/// What the operations of neighbouring chunks say in a shard. A merge keeps the hasher of the earlier run, also where that is empty.
+/// What the operations of neighbouring chunks say in a shard. A merge keeps the hasher of the earlier run, also where that is empty: so a run
+/// that begins with no chunk wants [`Run::none`], with a hasher of its own, where names may be hostile.
 #[derive(Drop)]
 pub struct Run {
     start: u32,
@@ -38,6 +41,17 @@ impl Run {
             start: chunk,
             end: chunk + 1,
             part,
+        }
+    }
+
+    /// The run of no chunk, at this one. What is merged into it is hashed by this hasher.
+    pub fn none(alloc: Global, at: u32, hasher: Keyed) -> Run
+        ensures { result ≡ record { first = at; end = at; sum = empty_sum } }
+    {
+        Run {
+            start: at,
+            end: at,
+            part: Part::new(alloc, hasher),
         }
     }
 
@@ -79,11 +93,7 @@ impl Merge for Run {
 
     /// The run of no chunk, at this one. It hashes names under the empty key, and so does what is merged into it.
     fn empty(alloc: Global, at: u32) -> Run {
-        Run {
-            start: at,
-            end: at,
-            part: Part::new(alloc, Keyed::new(&[])),
-        }
+        Run::none(alloc, at, Keyed::new(&[]))
     }
 
     fn first(&self) -> u32 {
@@ -146,17 +156,31 @@ pub fn merge_range(alloc: Global, runs: Vec<Run>) -> Result<Run, AllocError>
     };
     let mut run = first;
     for next in runs {
-        run = merged(alloc, run, next)?;
+        run = merge_next(run, next)?;
     }
     Ok(run)
 }
 
-fn merged(alloc: Global, run: Run, next: Run) -> Result<Run, AllocError>
+/// The run, and the next one moved into it, in a time linear in the next one. It grows as it needs to, where [`Merge::merge`] makes all room
+/// first.
+///
+/// # Errors
+///
+/// Only where memory is refused; then both are lost.
+pub fn merge_next(run: Run, next: Run) -> Result<Run, AllocError>
     requires { run.end ≡ next.first }
     ensures { IfOk result (λ both. both ≡ runs_joined run next) }
 {
-    match run.merge(alloc, next) {
-        Ok(both) => Ok(both),
-        Err(_) => Err(AllocError),
-    }
+    let Run {
+        start,
+        end: _,
+        mut part,
+    } = run;
+    let Run {
+        start: _,
+        end,
+        part: later,
+    } = next;
+    add_part(&mut part, later)?;
+    Ok(Run { start, end, part })
 }

@@ -3,8 +3,8 @@ use Rattle.summary_merge.specs.Runs.{AreNeighbours, Begins, all_from}
 use Rattle.summary_merge.proofs.Ranges.{two_first}
 use Rattle.summary_merge.proofs.run.merge_range.Goals as goal
 
-pub merged-requires : goal.merged-requires
-merged-requires c = subst (Begins c.loop-next.run.end) c.in-Some-next.ensures.steps.0 c.loop-next.invariant.next
+pub merge_next-requires : goal.merge_next-requires
+merge_next-requires c = subst (Begins c.loop-next.run.end) c.in-Some-next.ensures.steps.0 c.loop-next.invariant.next
 
 pub loop-next-preserved : goal.loop-next-preserved
 loop-next-preserved c =
