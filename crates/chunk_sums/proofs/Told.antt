@@ -1,0 +1,58 @@
+-- Operations with one more at their end say what they said, and then what that one says.
+use Rattle.std.proofs.Common.{◌≡◌, ℕ, ◌+◌, List, [], ◌∷◌, ◌++◌, length, Bool, true, false, cond, refl, sym, ap, ◌∙◌, arith}
+use Rattle.std.proofs.lemmas.List.{append-nil, append_assoc, length-append}
+use Rattle.std.proofs.lemmas.List.Elements.{filter-append}
+use Rattle.op_model.specs.Ops.{Op}
+use Rattle.op_model.specs.Noting.{Notes, note}
+use Rattle.op_model.specs.Running.{used, uses, uses_of_all}
+use Rattle.sum_model.specs.Shards.{in_shard, falls_in, ops_in}
+use Rattle.sum_model.specs.Sums.{Place, empty_sum, join, placed_from, placed, sum, sum_of_one}
+use Rattle.sum_laws.proofs.Sums.{join_is_a_monoid, the_sum_of_both_is_the_join}
+use Rattle.subtree_summary.specs.OnTheWay.{tell}
+use Rattle.subtree_summary.specs.Summing.{one_in}
+use Rattle.subtree_summary.proofs.Used.{used-append}
+use Rattle.chunk_sums.specs.Summing.{told, said_by, summed}
+
+uses-last : (os : List Op) (o : Op) → uses_of_all (os ++ o ∷ []) ≡ uses_of_all os ++ uses o
+uses-last [] o = append-nil (uses o)
+uses-last (p ∷ os) o = ap (λ l. uses p ++ l) (uses-last os o) ∙ sym (append_assoc (uses p) (uses_of_all os) (uses o))
+
+-- The last one stands behind as many as there were before it.
+placed-last : (chunk n : ℕ) (os : List Op) (o : Op) → placed_from chunk n (os ++ o ∷ []) ≡ placed_from chunk n os ++ (record { chunk = chunk; number = n + length os }, o) ∷ []
+placed-last chunk n [] o = ap (λ m. (record { chunk = chunk; number = m }, o) ∷ []) (let same : n ≡ n + 0 = omega arith in same)
+placed-last chunk n (p ∷ os) o =
+    let same : n + 1 + length os ≡ n + length (p ∷ os) = omega arith in
+    ap (λ l. (record { chunk = chunk; number = n }, p) ∷ l)
+    (placed-last chunk (n + 1) os o ∙ ap (λ m. placed_from chunk (n + 1) os ++ (record { chunk = chunk; number = m }, o) ∷ []) same)
+
+-- One operation alone.
+one_said : (shards k : ℕ) (at : Place) (o : Op) → sum (ops_in (in_shard shards k) ((at, o) ∷ [])) ≡ one_in shards k at o
+one_said shards k at o = by_test (falls_in (in_shard shards k) o)
+  where
+    by_test : (t : Bool) → sum (cond t ((at, o) ∷ []) []) ≡ cond t (sum_of_one at o) empty_sum
+    by_test true = join_is_a_monoid.right (sum_of_one at o)
+    by_test false = refl
+
+said-last : (chunk shards k : ℕ) (os : List Op) (o : Op)
+    → sum (ops_in (in_shard shards k) (placed chunk (os ++ o ∷ []))) ≡ join (sum (ops_in (in_shard shards k) (placed chunk os))) (one_in shards k (record { chunk = chunk; number = length os }) o)
+said-last chunk shards k os o =
+    let same : 0 + length os ≡ length os = omega arith in
+    let here = in_shard shards k in
+    let before = ops_in here (placed chunk os) in
+    let last = (record { chunk = chunk; number = length os }, o) ∷ [] in
+    ap (λ ps. sum (ops_in here ps)) (placed-last chunk 0 os o ∙ ap (λ m. placed chunk os ++ (record { chunk = chunk; number = m }, o) ∷ []) same)
+    ∙ ap sum (filter-append (λ p. falls_in here p.1) (placed chunk os) last)
+    ∙ the_sum_of_both_is_the_join before (ops_in here last)
+    ∙ ap (join (sum before)) (one_said shards k (record { chunk = chunk; number = length os }) o)
+
+pub said_by-last : (chunk shards : ℕ) (os : List Op) (o : Op) → said_by chunk shards (os ++ o ∷ []) ≡ tell o (said_by chunk shards os)
+said_by-last chunk shards os o i = record {
+  chunk = chunk;
+  count = length-append os (o ∷ []) i;
+  shards = shards;
+  said = λ k. said-last chunk shards k os o i;
+  names = (ap (used []) (uses-last os o) ∙ used-append [] (uses_of_all os) (uses o)) i;
+}
+
+pub summed-note : (shards : ℕ) (o : Op) (n : Notes) → summed shards (note o n) ≡ told o (summed shards n)
+summed-note shards o n i = record { chunk = n.chunk; unnamed = n.unnamed; so_far = said_by-last n.chunk shards n.ops o i }
