@@ -1,7 +1,8 @@
 pub mod Names
-pub mod Added
 pub mod Kept
 pub mod Renamed
 pub mod OwnConflicts
 pub mod Parts
 pub mod Lists
+pub mod Placed
+pub mod Finished

@@ -2,7 +2,6 @@
 use Rattle.std.proofs.Common.{◌≡◌, List, [], ◌∷◌, refl, ap}
 use Rattle.std.specs.Prelude.{map as each}
 use Rattle.std.specs.List.{AllByRecursion}
-use Rattle.ld_model.specs.Tree.{Tree}
 use Rattle.op_model.specs.Names.{Name}
 use Rattle.op_model.specs.Ops.{Entry, entries_of}
 use Rattle.op_model.specs.Running.{entry_in, entries_in}

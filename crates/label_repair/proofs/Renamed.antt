@@ -1,10 +1,10 @@
 -- A log under labels is the node that it stands for under them.
-use Rattle.std.proofs.Common.{◌≡◌, ◌≤◌, ◌^◌, ℕ, List, [], ◌∷◌, ◌++◌, length, Option, append_assoc, append-nil, refl, sym, ap, ◌∙◌, subst}
+use Rattle.std.proofs.Common.{◌≡◌, ◌≤◌, ◌^◌, List, [], ◌∷◌, ◌++◌, length, append_assoc, append-nil, sym, ap, ◌∙◌, subst}
 use Rattle.std.specs.Prelude.{map as each, option_map}
 use Rattle.std.specs.List.{AllByRecursion}
 use Rattle.ld_model.specs.Tree.{Tree}
 use Rattle.node_model.specs.Maps.{MapOf}
-use Rattle.node_model.specs.NodeMap.{Node, told, type_told, with_entries}
+use Rattle.node_model.specs.NodeMap.{Node, told, with_entries}
 use Rattle.op_model.specs.Names.{Name, same_name}
 use Rattle.op_model.specs.Ops.{Entry}
 use Rattle.op_model.specs.Running.{label_in, entry_in}
@@ -24,7 +24,7 @@ use Rattle.node_logs.specs.Log.{all_told, types_told, properties_told, node_view
 use Rattle.node_logs.specs.declared.node.Node as log
 use Rattle.subtree_summary.specs.declared.entry.Told.{Told}
 use Rattle.subtree_summary.specs.declared.entry.PartEntry.{PartEntry}
-use Rattle.subtree_summary.specs.Log.{told_view, properties_view, part_entry_view}
+use Rattle.subtree_summary.specs.Log.{properties_view, part_entry_view}
 use Rattle.subtree_summary.proofs.Logs.{properties-append, last}
 use Rattle.label_repair.specs.Renaming.{told_renamed, IsOwn}
 use Rattle.label_repair.proofs.Kept.{all-joined, once_back, properties_front, property_back}

@@ -1,2 +1,4 @@
 pub mod Renaming
+pub mod Placed
+pub mod Finished
 pub mod Shards

@@ -1,14 +1,19 @@
 -- What shards stand for.
-use Rattle.std.specs.Prelude.{◌≡◌, List, Option, Some, None, Result, Err, map, ⊤}
+use Rattle.std.specs.Prelude.{ℕ, ◌≡◌, List, Option, Some, None, Result, Err, map, ⊤}
+use Rattle.std.specs.Global.{Vec}
 use Rattle.ld_model.specs.Tree.{Pairs}
+use Rattle.ld_tree.specs.View.{members_view}
+use Rattle.ld_tree.specs.Built.{built}
+use Rattle.ld_tree.specs.declared.value.Tree.{Tree}
+use Rattle.node_model.specs.Maps.{MapOf}
 use Rattle.node_model.specs.NodeMap.{Conflict}
 use Rattle.node_ops.specs.Views.{conflict_view}
 use Rattle.node_ops.specs.declared.generation.MapStop.{MapStop}
 use Rattle.node_ops.specs.declared.generation.MapStop.TheVariants as stop
-use Rattle.node_logs.specs.Views.{graphs_view}
+use Rattle.node_logs.specs.Views.{shown}
 use Rattle.sum_model.specs.Sums.{Place}
 use Rattle.shard_model.specs.Renamed as model
-use Rattle.shard_model.specs.Renamed.{Shard}
+use Rattle.label_repair.specs.Finished.{FinishedShard}
 use Rattle.label_repair.specs.declared.shard.PlacedConflict.{PlacedConflict}
 use Rattle.label_repair.specs.declared.shard.NodeShard.{NodeShard}
 
@@ -22,10 +27,21 @@ abbrev pub conflict_in : Option PlacedConflict → Option model.PlacedConflict
 conflict_in (Some c) = Some (placed_view c)
 conflict_in None = None
 
-abbrev pub shard_view : NodeShard → Shard
-shard_view s = record { graphs = graphs_view s.graphs.entries; conflict = conflict_in s.conflict }
+-- The ids of a graph's nodes with their JSON, and those of graphs.
+abbrev pub pairs_view : Vec (List ℕ × Tree) → Pairs
+pairs_view v = members_view v.items
 
-abbrev pub shards_view : List NodeShard → List Shard
+abbrev pub graphs_view : List (List ℕ × Vec (List ℕ × Tree)) → MapOf Pairs
+graphs_view gs = shown pairs_view gs
+
+-- What graphs have once all their pairs are put at their ids.
+abbrev pub built_view : List (List ℕ × Vec (List ℕ × Tree)) → MapOf Pairs
+built_view gs = shown (λ v. built (pairs_view v)) gs
+
+abbrev pub shard_view : NodeShard → FinishedShard
+shard_view s = record { graphs = graphs_view s.graphs.items; conflict = conflict_in s.conflict }
+
+abbrev pub shards_view : List NodeShard → List FinishedShard
 shards_view ss = map shard_view ss
 
 -- Why there is no node map: a conflict is the one that is due, and memory may be refused at any time.

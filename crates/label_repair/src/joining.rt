@@ -1,27 +1,29 @@
 // Shards put together.
-ghost use Rattle.std.specs.Prelude.{◌≡◌, [], Ok, MatchResult, IfOk, OnOk};
-ghost use Rattle.node_model.specs.NodeMap.{on_graph};
-ghost use Rattle.node_model.specs.Generating.{empty};
-ghost use Rattle.node_logs.specs.Views.{graph_view, graphs_view};
+ghost use Rattle.std.specs.Prelude.{◌≡◌, Ok, MatchResult, IfOk, OnOk};
+ghost use Rattle.node_model.specs.Maps.{with_at};
+ghost use Rattle.ld_tree.specs.Built.{put_all, built};
 ghost use Rattle.sum_model.specs.Conflicts.{is_before};
-ghost use Rattle.shard_model.specs.Joined.{nodes_added, graphs_added, earlier_of, outcome_of, joined};
-ghost use Rattle.label_repair.specs.Shards.{place_of, placed_view, conflict_in, shards_view, StopsJoined};
+ghost use Rattle.shard_model.specs.Joined.{earlier_of};
+ghost use Rattle.label_repair.specs.Finished.{graph_put, pairs_put, default_pairs, graph_trees, outcome_of, finished_joined};
+ghost use Rattle.label_repair.specs.Shards.{place_of, conflict_in, pairs_view, graphs_view, built_view, shards_view, StopsJoined};
 
-use crate::shard::{NodeShard, PlacedConflict};
-use ld_tree::Text;
-use node_logs::{Graph, Graphs, graphs_of, note_graph, put_graph, put_node};
+use crate::shard::{NodeShard, Pairs, PlacedConflict};
+use ld_tree::{Members, Text, Tree};
 use node_ops::{MapStop, NodeMap};
 use std::alloc::{AllocError, Global};
 use std::collections::BTreeMap;
 
+/// The nodes of graphs, one behind another as they came, by the names of the graphs.
+type PairGraphs = BTreeMap<Text, Pairs>;
+
 /// The node map whose shards these are: each graph has the nodes that any shard has in it, and the default graph is there in any case. No node
-/// of a graph should be in two of them; else the later shard's is taken.
+/// of a graph should be in two of them; else the later shard's is taken. It takes n log n steps at most, in however many shards the nodes are.
 ///
 /// # Errors
 ///
 /// `Conflict` where a shard has one, the earliest by chunk and operation (JSON-LD 1.1 API, section 7.2, step 6.8), and `OutOfMemory`.
 pub fn join_shards(alloc: Global, shards: Vec<NodeShard>) -> Result<NodeMap, MapStop>
-    ensures { MatchResult result (λ map. joined (shards_view shards.items) ≡ Ok map.graphs) (StopsJoined (joined (shards_view shards.items))) }
+    ensures { MatchResult result (λ map. finished_joined (shards_view shards.items) ≡ Ok map.graphs) (StopsJoined (finished_joined (shards_view shards.items))) }
 {
     let mut graphs = default_graph(alloc)?;
     let mut conflict = None;
@@ -30,7 +32,7 @@ pub fn join_shards(alloc: Global, shards: Vec<NodeShard>) -> Result<NodeMap, Map
             graphs: more,
             conflict: later,
         } = shard;
-        add_graphs(alloc, &mut graphs, more)?;
+        add_graphs(&mut graphs, more)?;
         conflict = the_earlier(conflict, later);
     }
     outcome(alloc, conflict, graphs)
@@ -40,25 +42,37 @@ pub fn join_shards(alloc: Global, shards: Vec<NodeShard>) -> Result<NodeMap, Map
 fn outcome(
     alloc: Global,
     conflict: Option<PlacedConflict>,
-    graphs: Graphs,
+    graphs: PairGraphs,
 ) -> Result<NodeMap, MapStop>
-    ensures { MatchResult result (λ map. outcome_of (conflict_in conflict) (graphs_view graphs.entries) ≡ Ok map.graphs) (StopsJoined (outcome_of (conflict_in conflict) (graphs_view graphs.entries))) }
+    ensures { MatchResult result (λ map. outcome_of (conflict_in conflict) (built_view graphs.entries) ≡ Ok map.graphs) (StopsJoined (outcome_of (conflict_in conflict) (built_view graphs.entries))) }
 {
     match conflict {
         Some(placed) => Err(MapStop::Conflict(placed.conflict)),
         None => Ok(NodeMap {
-            graphs: graphs_of(alloc, graphs)?,
+            graphs: maps_of(alloc, graphs)?,
         }),
     }
 }
 
+/// Each graph as a map of its nodes. Where the ids of a graph ascend, as in one shard, they are left as they are, and else sorted once.
+fn maps_of(alloc: Global, graphs: PairGraphs) -> Result<Members, AllocError>
+    ensures { IfOk result (λ ms. ms ≡ graph_trees (built_view graphs.entries)) }
+{
+    let mut members = Members::with_capacity(alloc, graphs.len())?;
+    for (name, pairs) in graphs {
+        let nodes = Members::from_pairs(pairs)?;
+        members.set(name, Tree::Map(nodes))?;
+    }
+    Ok(members)
+}
+
 /// The default graph, and nothing in it.
 #[tactic(auto, unfolding(node_model::specs::Maps::with_at))]
-fn default_graph(alloc: Global) -> Result<Graphs, AllocError>
-    ensures { IfOk result (λ g. graphs_view g.entries ≡ empty.graphs) }
+fn default_graph(alloc: Global) -> Result<PairGraphs, AllocError>
+    ensures { IfOk result (λ g. built_view g.entries ≡ default_pairs) }
 {
     let mut graphs = BTreeMap::new(alloc);
-    note_graph(alloc, &mut graphs, &Text::new(alloc, "@default")?)?;
+    put_graph(&mut graphs, Text::new(alloc, "@default")?, Vec::new(alloc))?;
     Ok(graphs)
 }
 
@@ -84,53 +98,44 @@ fn comes_before(a: &PlacedConflict, b: &PlacedConflict) -> bool
     a.chunk < b.chunk || a.chunk == b.chunk && a.op < b.op
 }
 
-fn add_graphs(alloc: Global, graphs: &mut Graphs, more: Graphs) -> Result<(), AllocError>
-    ensures { OnOk result (graphs_view graphs.new.entries ≡ graphs_added (graphs_view more.entries) (graphs_view graphs.old.entries)) }
+fn add_graphs(graphs: &mut PairGraphs, more: Vec<(Text, Pairs)>) -> Result<(), AllocError>
+    ensures { OnOk result (built_view graphs.new.entries ≡ pairs_put (graphs_view more.items) (built_view graphs.old.entries)) }
 {
-    for (name, nodes) in more {
-        add_graph(alloc, graphs, name, nodes)?;
+    for (name, pairs) in more {
+        add_graph(graphs, name, pairs)?;
     }
     Ok(())
 }
 
-fn add_graph(alloc: Global, graphs: &mut Graphs, name: Text, more: Graph) -> Result<(), AllocError>
-    ensures { OnOk result (graphs_view graphs.new.entries ≡ on_graph name (nodes_added (graph_view more.entries)) (graphs_view graphs.old.entries)) }
+fn add_graph(graphs: &mut PairGraphs, name: Text, more: Pairs) -> Result<(), AllocError>
+    ensures { OnOk result (built_view graphs.new.entries ≡ graph_put name (pairs_view more) (built_view graphs.old.entries)) }
 {
-    if let Some(nodes) = graphs.get_mut(&name) {
-        add_nodes(nodes, more)?;
+    if let Some(pairs) = graphs.get_mut(&name) {
+        add_nodes(pairs, more)?;
         return Ok(());
     }
-    let mut nodes = BTreeMap::new(alloc);
-    add_nodes(&mut nodes, more)?;
-    put_graph(graphs, name, nodes)?;
+    put_graph(graphs, name, more)?;
     Ok(())
 }
 
-/// Adds nodes to those of a graph. Where there are none yet, they are taken as they are.
-fn add_nodes(nodes: &mut Graph, more: Graph) -> Result<(), AllocError>
-    ensures { OnOk result (graph_view nodes.new.entries ≡ nodes_added (graph_view more.entries) (graph_view nodes.old.entries)) }
+/// Moves nodes behind those of a graph. Where there are none yet, they are taken as they are.
+fn add_nodes(pairs: &mut Pairs, more: Pairs) -> Result<(), AllocError>
+    ensures { OnOk result (built (pairs_view pairs.new) ≡ put_all (pairs_view more) (built (pairs_view pairs.old))) }
 {
-    if nodes.is_empty() {
-        rise(&more);
-        *nodes = more;
+    if pairs.is_empty() {
+        *pairs = more;
         return Ok(());
     }
-    add_each(nodes, more)?;
+    let mut more = more;
+    pairs.append(&mut more)?;
     Ok(())
 }
 
-/// The ids of a graph's nodes rise, so that the nodes added to none give the graph. It does nothing.
-fn rise(nodes: &Graph)
-    ensures { nodes_added (graph_view nodes.now.entries) [] ≡ graph_view nodes.now.entries }
+fn put_graph(graphs: &mut PairGraphs, name: Text, pairs: Pairs) -> Result<(), AllocError>
+    ensures { OnOk result (built_view graphs.new.entries ≡ with_at name (built (pairs_view pairs)) (built_view graphs.old.entries)) }
 {
-    let _ = nodes.len();
-}
-
-fn add_each(nodes: &mut Graph, more: Graph) -> Result<(), AllocError>
-    ensures { OnOk result (graph_view nodes.new.entries ≡ nodes_added (graph_view more.entries) (graph_view nodes.old.entries)) }
-{
-    for (id, node) in more {
-        put_node(nodes, id, node)?;
+    match graphs.insert(name, pairs) {
+        Ok(_) => Ok(()),
+        Err(_) => Err(AllocError),
     }
-    Ok(())
 }

@@ -1,14 +1,16 @@
 //! Labels of blank nodes, numbered once all of a document's chunks have told which names they use (JSON-LD 1.1 API, section 7.4), and the node
 //! map that comes of the chunks' sums under these labels.
 //!
-//! [`number_labels`] numbers the labels. [`rename`] makes of a run, which is what all chunks say in a shard, the shard of the node map, and
-//! [`join_shards`] puts the shards together. Contracts see [`Labels`] as the names that have labels, in the order of first use; the number of
+//! [`number_labels`] numbers the labels. [`rename`] makes of a run, which is what all chunks say in a shard, the shard of the node map, whose
+//! nodes are finished in the order of their ids, and [`join_shards`] puts the shards together. Contracts see [`Labels`] as the names that have labels, in the order of first use; the number of
 //! a name is its place among them.
 #![tactic(auto)]
 
+mod finishing;
 mod joining;
 mod labels;
 mod numbering;
+mod placing;
 mod renaming;
 mod runs;
 mod shard;

@@ -19,7 +19,7 @@ use std::collections::BTreeMap;
 /// # Errors
 ///
 /// `AllocError` where memory is refused.
-pub fn graphs_of(alloc: Global, graphs: Graphs) -> Result<Members, AllocError>
+pub(crate) fn graphs_of(alloc: Global, graphs: Graphs) -> Result<Members, AllocError>
     ensures { IfOk result (λ ms. ms ≡ graph_pairs (graphs_view graphs.entries)) }
 {
     let mut members = Members::with_capacity(alloc, graphs.len())?;
@@ -42,8 +42,13 @@ fn nodes_of(alloc: Global, nodes: Graph) -> Result<Members, AllocError>
     Ok(members)
 }
 
-/// The members of a node.
-fn members_of(alloc: Global, id: &Text, node: Node) -> Result<Members, AllocError>
+/// What was told of the node with this id, as JSON: the members of its object, each property with its entries in the order in which they were
+/// told (JSON-LD 1.1 API, section 7.2). Types and entries stand once, and properties in the order of their names.
+///
+/// # Errors
+///
+/// `AllocError` where memory is refused.
+pub fn members_of(alloc: Global, id: &Text, node: Node) -> Result<Members, AllocError>
     ensures { IfOk result (λ ms. ms ≡ node_members id.now (node_view node)) }
 {
     let Node { types, index, told } = node;

@@ -11,10 +11,10 @@ use std::alloc::{AllocError, Global};
 use std::collections::BTreeMap;
 
 /// The nodes of a graph, by their ids. By bytes, so that no ids that somebody chose make it slow.
-pub type Graph = BTreeMap<Text, Node>;
+pub(crate) type Graph = BTreeMap<Text, Node>;
 
 /// The graphs of a node map, by their names.
-pub type Graphs = BTreeMap<Text, Graph>;
+pub(crate) type Graphs = BTreeMap<Text, Graph>;
 
 /// Notes what was told of a node of a graph.
 pub(crate) fn note(
@@ -48,7 +48,7 @@ fn note_in(nodes: &mut Graph, id: &Text, node: Node) -> Result<(), AllocError>
 }
 
 /// Makes a graph, where there is none of this name. Fails only where memory is refused.
-pub fn note_graph(alloc: Global, graphs: &mut Graphs, graph: &Text) -> Result<(), AllocError>
+pub(crate) fn note_graph(alloc: Global, graphs: &mut Graphs, graph: &Text) -> Result<(), AllocError>
     ensures { OnOk result (graphs_view graphs.new.entries ≡ on_graph graph.now (λ nodes. nodes) (graphs_view graphs.old.entries)) }
 {
     if let Some(_nodes) = graphs.get_mut(graph) {
@@ -59,7 +59,7 @@ pub fn note_graph(alloc: Global, graphs: &mut Graphs, graph: &Text) -> Result<()
 }
 
 /// Puts a graph at its name, in place of what may stand there. Fails only where memory is refused.
-pub fn put_graph(graphs: &mut Graphs, name: Text, nodes: Graph) -> Result<(), AllocError>
+pub(crate) fn put_graph(graphs: &mut Graphs, name: Text, nodes: Graph) -> Result<(), AllocError>
     ensures { OnOk result (graphs_view graphs.new.entries ≡ with_at name (graph_view nodes.entries) (graphs_view graphs.old.entries)) }
 {
     match graphs.insert(name, nodes) {
@@ -69,7 +69,7 @@ pub fn put_graph(graphs: &mut Graphs, name: Text, nodes: Graph) -> Result<(), Al
 }
 
 /// Puts a node at its id, in place of what may stand there. Fails only where memory is refused.
-pub fn put_node(nodes: &mut Graph, id: Text, node: Node) -> Result<(), AllocError>
+pub(crate) fn put_node(nodes: &mut Graph, id: Text, node: Node) -> Result<(), AllocError>
     ensures { OnOk result (graph_view nodes.new.entries ≡ with_at id (node_view node) (graph_view nodes.old.entries)) }
 {
     match nodes.insert(id, node) {

@@ -4,7 +4,7 @@
 //! finished by itself, and given back before the next one: types and entries stand once, and properties in the order of their names. So
 //! the whole takes n log n steps, in whichever order nodes, properties, types and entries come, and whatever they are.
 //!
-//! Whoever knows by other means what all is told of a node makes its [`Node`], and puts it into [`Graphs`].
+//! Whoever knows by other means what all is told of a node makes its [`Node`], and finishes it by [`members_of`].
 #![tactic(auto)]
 
 mod entries;
@@ -16,7 +16,6 @@ mod repeats;
 mod tree_order;
 
 pub use entries::{list_object, reference};
-pub use finishing::graphs_of;
+pub use finishing::members_of;
 pub use gathered::Gathered;
-pub use graphs::{Graph, Graphs, note_graph, put_graph, put_node};
 pub use node::{Node, Telling, Told};

@@ -1,5 +1,5 @@
 -- What all chunks say together.
-use Rattle.std.proofs.Common.{◌≡◌, ◌+◌, ◌<◌, ◌≤◌, ◌^◌, ℕ, List, [], ◌∷◌, ◌++◌, length, Bool, Result, refl, sym, ap, ap₂, ◌∙◌, subst, arith}
+use Rattle.std.proofs.Common.{◌≡◌, ◌+◌, ◌<◌, ◌≤◌, ◌^◌, ℕ, List, [], ◌∷◌, ◌++◌, length, Bool, Result, refl, sym, ap, ◌∙◌, subst, arith}
 use Rattle.std.specs.Prelude.{flat_map, map as each, slice_get, IfSome}
 use Rattle.std.specs.List.{AllByRecursion}
 use Rattle.std.proofs.lemmas.List.Elements.{filter-append}
@@ -11,33 +11,25 @@ use Rattle.node_ops.specs.Views.{Stops}
 use Rattle.node_ops.specs.declared.generation.MapStop.{MapStop}
 use Rattle.node_ops.specs.declared.generation.MapStop.TheVariants as stop
 use Rattle.label_repair.specs.Shards.{StopsJoined}
+use Rattle.label_repair.specs.Finished.{FinishedShard, finished, finished_joined}
+use Rattle.label_repair.proofs.Finished.{finished_is_joined}
 use Rattle.op_model.specs.Names.{Name}
-use Rattle.op_model.specs.Ops.{Op}
 use Rattle.op_model.specs.Noting.{top_range, ops_of, ops_of_chunks}
 use Rattle.op_laws.specs.Sound.{IsSound}
-use Rattle.sum_model.specs.Sums.{Placed, placed, placed_chunks, sum, Sum, join}
+use Rattle.sum_model.specs.Sums.{Placed, placed, placed_chunks, sum, Sum, empty_sum, join}
 use Rattle.sum_model.specs.Shards.{in_shard, falls_in, ops_in}
 use Rattle.sum_laws.proofs.Sums.{join_is_a_monoid, the_sum_of_both_is_the_join}
 use Rattle.shard_model.specs.Numbered.{names_of}
-use Rattle.shard_model.specs.Renamed.{Shard, shard_renamed}
+use Rattle.shard_model.specs.Renamed.{shard_renamed}
 use Rattle.shard_model.specs.Joined.{joined, with_count}
 use Rattle.shard_model.specs.Own.{SumHasOwn}
-use Rattle.shard_laws.specs.Laws.{ops, labels_by, shards_of, ops_by_chunk}
+use Rattle.shard_laws.specs.Laws.{ops, labels_by, ops_by_chunk}
 use Rattle.shard_laws.proofs.Owned.{sums_have_own}
 use Rattle.shard_laws.proofs.Chunks.{names_are_those_of_parts, ranges_are_sound, ranges_are_generation, chunk_by_chunk}
 use Rattle.subtree_summary.specs.declared.part.Part.{Part}
 use Rattle.subtree_summary.specs.Parts.{part_view}
-use Rattle.summary_merge.specs.Runs.{RunOf, all_from, all_joined, Begins, AreNeighbours}
-use Rattle.node_parts.specs.Chunked.{run_of_chunk, runs_from, uses_from}
-
--- Each chunk begins where the one before it ends.
-next_begins : (n : ℕ) (rows : List (List Tree)) → Begins n (runs_from n rows)
-next_begins n [] = tt
-next_begins n (row ∷ rows) = refl
-
-pub are_neighbours : (n : ℕ) (rows : List (List Tree)) → AreNeighbours (runs_from n rows)
-are_neighbours n [] = tt
-are_neighbours n (row ∷ rows) = (next_begins (n + 1) rows, are_neighbours (n + 1) rows)
+use Rattle.summary_merge.specs.Runs.{RunOf, all_from}
+use Rattle.node_parts.specs.Chunked.{run_of_chunk, runs_from, run_of_rows, uses_from}
 
 -- There is one shard, and all falls in it.
 abbrev here : Name → Bool
@@ -54,9 +46,8 @@ sums_from r n [] = sym (join_is_a_monoid.right r.sum)
 sums_from r n (row ∷ rows) =
     ap (join r.sum) (sums_from (run_of_chunk n row) (n + 1) rows ∙ sym (sum_of_both (placed n (ops_of n (top_range row))) (all_ops (n + 1) rows)))
 
-pub sum_of_all : (rows : List (List Tree)) → (all_joined (runs_from 0 rows)).sum ≡ sum (ops_in here (all_ops 0 rows))
-sum_of_all [] = refl
-sum_of_all (row ∷ rows) = sums_from (run_of_chunk 0 row) 1 rows ∙ sym (sum_of_both (placed 0 (ops_of 0 (top_range row))) (all_ops 1 rows))
+pub sum_of_all : (rows : List (List Tree)) → (run_of_rows rows).sum ≡ sum (ops_in here (all_ops 0 rows))
+sum_of_all rows = sums_from (record { first = 0; end = 0; sum = empty_sum }) 0 rows ∙ join_is_a_monoid.left (sum (ops_in here (all_ops 0 rows)))
 
 -- The names that have labels.
 uses_are : (n : ℕ) (rows : List (List Tree)) → uses_from n rows ≡ each labels_by (ops_by_chunk n (each top_range rows))
@@ -72,22 +63,22 @@ names_are rows =
     ap names_of (uses_are 0 rows) ∙ names_are_those_of_parts parts ∙ ap labels_by (chunk_by_chunk 0 (each top_range rows))
 
 -- The sum of all has its own names.
-pub all_own : (rows : List (List Tree)) → SumHasOwn (names_of (uses_from 0 rows)) (all_joined (runs_from 0 rows)).sum
+pub all_own : (rows : List (List Tree)) → SumHasOwn (names_of (uses_from 0 rows)) (run_of_rows rows).sum
 all_own rows =
     let sound = ranges_are_sound rows in
     let own : SumHasOwn (labels_by (ops (all_ops 0 rows))) (sum (ops_in here (all_ops 0 rows))) =
     sums_have_own (all_ops 0 rows) here (subst (AllByRecursion IsSound) (sym sound.1) sound.0) in
-    subst (λ names. SumHasOwn names (all_joined (runs_from 0 rows)).sum) (sym (names_are rows))
+    subst (λ names. SumHasOwn names (run_of_rows rows).sum) (sym (names_are rows))
     (subst (λ s. SumHasOwn (labels_of_rows rows) s) (sym (sum_of_all rows))
     (subst (λ os. SumHasOwn (labels_by os) (sum (ops_in here (all_ops 0 rows)))) sound.1 own))
 
 -- The one shard, under the labels, is the node map.
 pub is_generated : (rows : List (List Tree)) → length (names_of (uses_from 0 rows)) ≤ 2 ^ 64
-    → with_count (length (names_of (uses_from 0 rows))) (joined (shard_renamed (names_of (uses_from 0 rows)) (all_joined (runs_from 0 rows)).sum ∷ [])) ≡ generate (flat_map (λ row. row) rows)
+    → with_count (length (names_of (uses_from 0 rows))) (joined (shard_renamed (names_of (uses_from 0 rows)) (run_of_rows rows).sum ∷ [])) ≡ generate (flat_map (λ row. row) rows)
 is_generated rows few =
     let few_too : length (labels_of_rows rows) ≤ 2 ^ 64 = subst (λ (l : List Name). length l ≤ 2 ^ 64) (names_are rows) few in
     let some : 0 < 1 = omega arith in
-    ap (λ names. with_count (length names) (joined (shard_renamed names (all_joined (runs_from 0 rows)).sum ∷ []))) (names_are rows)
+    ap (λ names. with_count (length names) (joined (shard_renamed names (run_of_rows rows).sum ∷ []))) (names_are rows)
     ∙ ap (λ s. with_count (length (labels_of_rows rows)) (joined (shard_renamed (labels_of_rows rows) s ∷ []))) (sum_of_all rows)
     ∙ ranges_are_generation 1 some rows few_too
 
@@ -102,13 +93,14 @@ last_is_first (q ∷ []) p count = absurd (cc)
 last_is_first (q ∷ r ∷ parts) p count = absurd (cc)
 
 -- Whatever the calls gave, once it is what it should be.
-pub whole : (rows : List (List Tree)) (items : List Tree) (labels : List Name) (run : RunOf) (shards : List Shard)
-    → flat_map (λ row. row) rows ≡ items → labels ≡ names_of (uses_from 0 rows) → run ≡ all_joined (runs_from 0 rows) → shards ≡ shard_renamed labels run.sum ∷ [] → length labels ≤ 2 ^ 64
-    → with_count (length labels) (joined shards) ≡ generate items
+pub whole : (rows : List (List Tree)) (items : List Tree) (labels : List Name) (run : RunOf) (shards : List FinishedShard)
+    → flat_map (λ row. row) rows ≡ items → labels ≡ names_of (uses_from 0 rows) → run ≡ run_of_rows rows → shards ≡ finished (shard_renamed labels run.sum) ∷ [] → length labels ≤ 2 ^ 64
+    → with_count (length labels) (finished_joined shards) ≡ generate items
 whole rows items labels run shards items-are labels-are run-is shards-are few =
-    ap (λ ss. with_count (length labels) (joined ss)) shards-are
+    ap (λ ss. with_count (length labels) (finished_joined ss)) shards-are
+    ∙ ap (with_count (length labels)) (finished_is_joined (shard_renamed labels run.sum ∷ []))
     ∙ ap (λ (r : RunOf). with_count (length labels) (joined (shard_renamed labels r.sum ∷ []))) run-is
-    ∙ ap (λ l. with_count (length l) (joined (shard_renamed l (all_joined (runs_from 0 rows)).sum ∷ []))) labels-are
+    ∙ ap (λ l. with_count (length l) (joined (shard_renamed l (run_of_rows rows).sum ∷ []))) labels-are
     ∙ is_generated rows (subst (λ (l : List Name). length l ≤ 2 ^ 64) labels-are few)
     ∙ ap generate items-are
 

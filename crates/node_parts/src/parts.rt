@@ -6,22 +6,28 @@ ghost use Rattle.op_model.specs.Noting.{top_range, ops_of};
 ghost use Rattle.subtree_summary.specs.Parts.{part_view};
 ghost use Rattle.subtree_summary.specs.Uses.{uses_view};
 ghost use Rattle.shard_laws.specs.Laws.{labels_by};
-ghost use Rattle.node_parts.specs.Chunked.{run_of_chunk, runs_from, uses_from};
+ghost use Rattle.shard_model.specs.Numbered.{names_of};
+ghost use Rattle.summary_merge.specs.Runs.{runs_joined};
+ghost use Rattle.node_parts.specs.Chunked.{run_of_chunk, run_of_rows, uses_from};
 
 use crate::chunks::chunks_of;
 use crate::digest::digest_of;
-use label_repair::{NodeShard, join_shards, number_labels, rename};
+use chunk_sums::summarise_items;
+use label_repair::{Labels, NodeShard, join_shards, number_labels, rename};
 use ld_tree::Trees;
-use node_notes::ops_of_items;
 use node_ops::{MapStop, NodeMap};
 use std::alloc::{AllocError, Global};
-use subtree_summary::{Keyed, LabelUses, Part, Summary, summarise_all};
-use summary_merge::{Run, merge_range};
+use subtree_summary::{Keyed, LabelUses, Part};
+use summary_merge::{Run, merge_next};
 
-/// What chunks say, one after another.
+/// What the chunks so far say.
 #[derive(Drop)]
 struct Chunked {
-    runs: Vec<Run>,
+    /// How many there were.
+    count: u32,
+    /// What they add to a node map.
+    run: Run,
+    /// The names that each of them uses.
     uses: Vec<LabelUses>,
 }
 
@@ -37,9 +43,12 @@ pub fn node_map_by_parts(alloc: Global, items: Trees) -> Result<(NodeMap, u64), 
 {
     let hasher = Keyed::new(&digest_of(&items));
     let rows = chunks_of(alloc, items)?;
-    let Chunked { runs, uses } = sum_chunks(alloc, rows, hasher)?;
-    let labels = number_labels(alloc, uses.as_slice())?;
-    let run = merge_range(alloc, runs)?;
+    let Chunked {
+        count: _,
+        run,
+        uses,
+    } = sum_chunks(alloc, rows, hasher)?;
+    let labels = labels_of(alloc, uses)?;
     let shard = rename(alloc, run, &labels)?;
     let count = labels.count();
     match join_shards(alloc, alone(alloc, shard)?) {
@@ -56,18 +65,26 @@ fn alone(alloc: Global, shard: NodeShard) -> Result<Vec<NodeShard>, AllocError>
     Ok(shards)
 }
 
-/// What the chunks say, numbered from 0.
+/// The labels of names, by the chunks' uses, which are let go.
+fn labels_of(alloc: Global, uses: Vec<LabelUses>) -> Result<Labels, AllocError>
+    ensures { IfOk result (λ labels. labels ≡ names_of (each uses_view uses.items)) }
+{
+    let labels = number_labels(alloc, uses.as_slice())?;
+    Ok(labels)
+}
+
+/// What the chunks say, numbered from 0. Each is merged into the run of those before it as it comes.
 fn sum_chunks(alloc: Global, rows: Vec<Trees>, hasher: Keyed) -> Result<Chunked, AllocError>
-    ensures runs { IfOk result (λ c. c.runs.items ≡ runs_from 0 rows.items) }
+    ensures run { IfOk result (λ c. c.run ≡ run_of_rows rows.items) }
     ensures uses { IfOk result (λ c. each uses_view c.uses.items ≡ uses_from 0 rows.items) }
 {
     let mut all = Chunked {
-        runs: Vec::with_capacity(alloc, rows.len())?,
+        count: 0,
+        run: Run::none(alloc, 0, hasher),
         uses: Vec::with_capacity(alloc, rows.len())?,
     };
-    let mut number = 0;
     for row in rows {
-        number = add_chunk(alloc, &mut all, row, number, hasher)?;
+        all = with_chunk(alloc, all, row, hasher)?;
     }
     Ok(all)
 }
@@ -84,24 +101,23 @@ fn only(alloc: Global, parts: Vec<Part>) -> Part
     }
 }
 
-/// Adds what the chunk with this number says. It gives the next number.
-fn add_chunk(
-    alloc: Global,
-    all: &mut Chunked,
-    row: Trees,
-    number: u32,
-    hasher: Keyed,
-) -> Result<u32, AllocError>
-    ensures next { IfOk result (λ n. n ≡ number + 1) }
-    ensures runs { OnOk result (all.new.runs.items ≡ all.old.runs.items ++ run_of_chunk number row ∷ []) }
-    ensures uses { OnOk result (each uses_view all.new.uses.items ≡ each uses_view all.old.uses.items ++ labels_by (ops_of number (top_range row)) ∷ []) }
+/// What the chunks say, and then one more.
+fn with_chunk(alloc: Global, all: Chunked, row: Trees, hasher: Keyed) -> Result<Chunked, AllocError>
+    requires { all.run.end ≡ all.count }
+    ensures count { IfOk result (λ c. c.count ≡ all.count + 1) }
+    ensures run { IfOk result (λ c. c.run ≡ runs_joined all.run (run_of_chunk all.count row)) }
+    ensures uses { IfOk result (λ c. each uses_view c.uses.items ≡ each uses_view all.uses.items ++ labels_by (ops_of all.count (top_range row)) ∷ []) }
 {
-    let Some(next) = number.checked_add(1) else {
+    let Chunked {
+        count: number,
+        run,
+        mut uses,
+    } = all;
+    let Some(count) = number.checked_add(1) else {
         return Err(AllocError);
     };
-    let ops = ops_of_items(alloc, row, number)?;
-    let Summary { parts, uses } = summarise_all(alloc, ops, number, 1, hasher)?;
-    all.runs.push(Run::of(only(alloc, parts), number))?;
-    all.uses.push(uses)?;
-    Ok(next)
+    let summary = summarise_items(alloc, row, number, 1, hasher)?;
+    let run = merge_next(run, Run::of(only(alloc, summary.parts), number))?;
+    uses.push(summary.uses)?;
+    Ok(Chunked { count, run, uses })
 }

@@ -1,4 +1,4 @@
-use Rattle.std.proofs.Common.{Some, sym, ap, ◌∙◌}
+use Rattle.std.proofs.Common.{sym, ap, ◌∙◌}
 use Rattle.node_names.specs.View.{name_view}
 use Rattle.summary_merge.specs.Conflict.{conflict_view, place_of}
 use Rattle.label_repair.proofs.OwnConflicts.{conflict_is_owned}

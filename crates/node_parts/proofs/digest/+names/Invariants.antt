@@ -1,4 +1,4 @@
-use Rattle.std.proofs.Common.{◌≡◌, ◌+◌, ◌*◌, ◌≤◌}
+use Rattle.std.proofs.Common.{◌+◌, ◌*◌, ◌≤◌}
 use Rattle.ld_model.specs.Tree.{weight, trees_weight, members_weight, trees_of, members_of}
 use Rattle.ld_tree.specs.View.{view}
 use Rattle.node_parts.proofs.digest.+names.Given as goal

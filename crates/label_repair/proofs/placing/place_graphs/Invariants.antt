@@ -1,0 +1,13 @@
+use Rattle.std.proofs.Common.{◌≡◌}
+use Rattle.std.specs.List.{AllByRecursion}
+use Rattle.op_laws.specs.Own.{HasOwn}
+use Rattle.node_names.specs.View.{names_view}
+use Rattle.label_repair.specs.Placed.{graphs_view, graphs_placed}
+use Rattle.label_repair.proofs.placing.place_graphs.Given as goal
+
+abbrev pub invariant-loop-graph : goal.invariant-loop-graph
+invariant-loop-graph l =
+    record {
+      made : graphs_placed l.fn.labels (names_view l.graph-iterator) (graphs_view l.made.entries) ≡ graphs_placed l.fn.labels (names_view l.initial.graph-iterator) (graphs_view l.initial.made.entries);
+      own : AllByRecursion (HasOwn l.fn.labels) (names_view l.graph-iterator);
+    }
