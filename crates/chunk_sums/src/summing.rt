@@ -4,7 +4,7 @@ ghost use Rattle.op_model.specs.Names.{fresh};
 ghost use Rattle.op_model.specs.Noting.{ops_of, top_range};
 ghost use Rattle.op_model.specs.Running.{used, uses_of_all};
 ghost use Rattle.sum_model.specs.Sums.{placed};
-ghost use Rattle.node_names.specs.View.{name_view};
+ghost use Rattle.op_types.specs.View.{name_view};
 ghost use Rattle.subtree_summary.specs.OnTheWay.{sums_view};
 ghost use Rattle.subtree_summary.specs.Parts.{ArePartsOf};
 ghost use Rattle.subtree_summary.specs.Uses.{uses_view};
@@ -12,8 +12,8 @@ ghost use Rattle.chunk_sums.specs.Summing.{on_the_way};
 ghost use Rattle.chunk_sums.specs.Views.{summing_view};
 
 use ld_tree::{Text, Tree, Trees};
-use node_names::{Entries, Entry, Name};
 use node_walk::{Gather, walk_document};
+use op_types::{Entries, Entry, Name};
 use std::alloc::{AllocError, Global};
 use subtree_summary::{Keyed, Summary, Sums};
 
@@ -29,7 +29,7 @@ struct Summing {
 }
 
 /// The sums of the chunk with this number, of items of the document's own array, one for each of so many shards, and the names in them that need
-/// labels, in the order of first use (JSON-LD 1.1 API, section 7.2). They are the sums of the chunk's operations, as `node_notes` notes them, but
+/// labels, in the order of first use (JSON-LD 1.1 API, section 7.2). They are the sums of the chunk's operations, as `chunk_ops` notes them, but
 /// no operation is noted. The items are taken apart, and what they say of nodes is moved and not copied.
 ///
 /// It takes a time linear in the size of the items, as long as few of their names collide under the key of the hasher. The key has no say in what
@@ -101,7 +101,7 @@ impl Summing {
 impl Gather for Summing {
     ghost use Rattle.op_model.specs.Names.{Name as NameData};
     ghost use Rattle.op_model.specs.Ops.{Entry as EntryData};
-    ghost use Rattle.node_names.specs.View.{name_view};
+    ghost use Rattle.op_types.specs.View.{name_view};
     ghost use Rattle.chunk_sums.specs.Summing.{OnTheWay, summing};
     ghost use Rattle.chunk_sums.specs.Views.{summing_view};
 

@@ -9,7 +9,7 @@ ghost use Rattle.expand_types.specs.View.{definition_in, map_scope_view, word_vi
 use crate::keywords::{add_keyword, begin_keyword, tell_keyword};
 use crate::properties::{add_property, tell_property};
 use ctx_types::TermDef;
-use expand_told::finish_entries;
+use expand_entries::finish_entries;
 use expand_types::{MapScope, Name, PartStop};
 use expand_values::Draft;
 use ld_tree::Tree;

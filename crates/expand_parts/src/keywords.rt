@@ -14,7 +14,7 @@ ghost use Rattle.expand_parts.specs.Reverse.{reversed_member};
 
 use crate::properties::{reverse, reversed_in};
 use case_tables::{Code, Keyword};
-use expand_told::keyword_entry;
+use expand_entries::keyword_entry;
 use expand_types::{MapScope, PartStop};
 use expand_values::{Draft, as_items, is_node_object, values_of};
 use ld_text::Text;

@@ -11,7 +11,7 @@ mod keywords;
 mod properties;
 
 pub use entries::{add, begin, finish, tell};
-pub use expand_told::{finish_map, keyword_entry};
+pub use expand_entries::{finish_map, keyword_entry};
 pub use expand_types::PartStop;
 pub use expand_values::{Draft, add_value, expand_value, join, scalar_value};
 pub use indexes::add_index;

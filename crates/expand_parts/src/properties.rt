@@ -11,7 +11,7 @@ ghost use Rattle.expand_types.specs.View.{definition_in};
 
 use case_tables::{Code, Shape};
 use ctx_types::{ActiveContext, TermDef};
-use expand_told::value_unexpanded;
+use expand_entries::value_unexpanded;
 use expand_types::PartStop;
 use expand_values::{
     Draft, add_all, as_items, graph_object, is_list_object, is_null, is_value_object, list_object,

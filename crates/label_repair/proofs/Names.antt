@@ -9,8 +9,8 @@ use Rattle.indexmap.specs.IndexSet.{insert_key}
 use Rattle.op_model.specs.Names.{Name, same_name}
 use Rattle.op_model.specs.Running.{with_name, place_of}
 use Rattle.shard_laws.proofs.Chunks.{numbers_are_those_in_labels}
-use Rattle.node_names.specs.View.{name_view, names_view}
-use Rattle.node_names.specs.declared.name.Name as code
+use Rattle.op_types.specs.View.{name_view, names_view}
+use Rattle.op_types.specs.declared.name.Name as code
 use Rattle.shard_model.specs.Numbered.{numbered_from, number_of}
 
 -- The test by which code tells names apart.

@@ -19,7 +19,7 @@ use Rattle.sum_laws.proofs.Sums.{names as names_monoid, entries as entries_monoi
 use Rattle.shard_model.specs.Renamed.{properties_put, node_renamed}
 use Rattle.shard_model.specs.Own.{PropertyHasOwn, PartHasOwn}
 use Rattle.shard_laws.proofs.Step.{one_name, entry_added, property_step}
-use Rattle.node_names.specs.View.{name_view, names_view, entries_view}
+use Rattle.op_types.specs.View.{name_view, names_view, entries_view}
 use Rattle.node_logs.specs.Log.{all_told, types_told, properties_told, node_view}
 use Rattle.node_logs.specs.declared.node.Node as log
 use Rattle.subtree_summary.specs.declared.entry.Told.{Told}

@@ -4,7 +4,7 @@ use Rattle.std.specs.List.{AllByRecursion}
 use Rattle.op_model.specs.Names.{Name}
 use Rattle.op_model.specs.Running.{label_in, entry_in}
 use Rattle.op_laws.specs.Own.{HasOwn, EntryHasOwn}
-use Rattle.node_names.specs.View.{name_view, entries_view}
+use Rattle.op_types.specs.View.{name_view, entries_view}
 use Rattle.node_logs.specs.declared.node.Told.{Told}
 use Rattle.subtree_summary.specs.declared.entry.Told as said
 

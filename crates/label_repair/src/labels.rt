@@ -1,11 +1,11 @@
 // The names that have labels.
 ghost use Rattle.std.specs.Prelude.{◌≡◌, ◌≤◌, ◌^◌, [], length, OnOk, OnErr};
 ghost use Rattle.op_model.specs.Running.{used, with_name, place_of};
-ghost use Rattle.node_names.specs.View.{name_view, names_view};
+ghost use Rattle.op_types.specs.View.{name_view, names_view};
 ghost use Rattle.shard_model.specs.Numbered.{number_of};
 
 use indexmap::IndexSet;
-use node_names::Name;
+use op_types::Name;
 use std::alloc::{AllocError, Global};
 use std::marker::Model;
 use subtree_summary::Keyed;
@@ -20,8 +20,8 @@ impl Model for Labels {
     ghost use Rattle.std.specs.Prelude.{List};
     ghost use Rattle.std.specs.Coded.{coded_list};
     ghost use Rattle.op_model.specs.Names.{Name as NameData};
-    ghost use Rattle.node_names.specs.Codes.{name_code};
-    ghost use Rattle.node_names.specs.View.{names_view};
+    ghost use Rattle.op_types.specs.Codes.{name_code};
+    ghost use Rattle.op_types.specs.View.{names_view};
 
     ghost Value = { List NameData };
 

@@ -5,7 +5,7 @@ ghost use Rattle.ld_tree.specs.View.{view};
 ghost use Rattle.node_logs.specs.Log.{node_view};
 ghost use Rattle.op_laws.specs.Own.{HasOwn, EntryHasOwn};
 ghost use Rattle.op_model.specs.Running.{label_in, entry_in};
-ghost use Rattle.node_names.specs.View.{name_view, names_view, entry_view, entries_view};
+ghost use Rattle.op_types.specs.View.{name_view, names_view, entry_view, entries_view};
 ghost use Rattle.shard_model.specs.Own.{PartHasOwn};
 ghost use Rattle.shard_model.specs.Renamed.{node_renamed};
 ghost use Rattle.subtree_summary.specs.Log.{index_view, part_entry_view};
@@ -14,8 +14,8 @@ ghost use Rattle.label_repair.specs.Renaming.{IsOwn, told_renamed};
 use crate::labels::Labels;
 use ld_tree::{Text, Tree, Trees};
 use node_logs::{Node, Told, list_object, reference};
-use node_names::{Entries, Entry, Name};
 use node_ops::label_text;
+use op_types::{Entries, Entry, Name};
 use std::alloc::{AllocError, Global};
 use subtree_summary::{IndexAt, PartEntry, Told as Said};
 

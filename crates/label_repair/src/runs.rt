@@ -1,7 +1,7 @@
 // A run under labels.
 ghost use Rattle.std.specs.Prelude.{◌≡◌, Some, option_map, IfOk};
 ghost use Rattle.op_laws.specs.Own.{HasOwn};
-ghost use Rattle.node_names.specs.View.{name_view};
+ghost use Rattle.op_types.specs.View.{name_view};
 ghost use Rattle.sum_model.specs.Conflicts as model;
 ghost use Rattle.summary_merge.specs.Conflict.{conflict_view};
 ghost use Rattle.shard_model.specs.Own.{SumHasOwn};

@@ -10,7 +10,7 @@ mod generation;
 mod labels;
 mod nodes;
 
+pub use chunk_ops::{Chunk, ops_of, ops_of_items, shard_of};
 pub use generation::{Conflict, MapStop, NodeMap, into_node_map, node_map};
 pub use labels::label_text;
-pub use node_names::{Entries, Entry, Name, Op, Ops};
-pub use node_notes::{Chunk, ops_of, ops_of_items, shard_of};
+pub use op_types::{Entries, Entry, Name, Op, Ops};

@@ -5,10 +5,10 @@ ghost use Rattle.op_laws.specs.Sound.{IsSound};
 ghost use Rattle.shard_laws.specs.Laws.{labels_by};
 ghost use Rattle.part_cases.specs.Chunks.{AreSound, IsNumbered};
 
+use chunk_ops::{Chunk, ops_of};
 use label_repair::{Labels, number_labels};
 use ld_json::Tree;
-use node_names::{Name, Ops};
-use node_notes::{Chunk, ops_of};
+use op_types::{Name, Ops};
 use std::alloc::{AllocError, Global};
 use subtree_summary::{Summary, summarise};
 

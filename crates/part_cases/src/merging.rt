@@ -7,7 +7,7 @@ ghost use Rattle.summary_merge.specs.Runs.{runs_joined};
 ghost use Rattle.part_cases.specs.Chunks.{run_of, lone_runs};
 
 use job_core::Merge;
-use node_names::Ops;
+use op_types::Ops;
 use std::alloc::{AllocError, Global};
 use subtree_summary::{Part, Summary, summarise};
 use summary_merge::{Run, merge_range};

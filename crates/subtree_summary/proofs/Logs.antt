@@ -9,9 +9,9 @@ use Rattle.sum_laws.specs.Said.{once}
 use Rattle.sum_laws.proofs.Once.{once-append}
 use Rattle.sum_laws.proofs.Same.{same_name-exact, same_name-refl, same_name-sym, same_entry-exact, same_entry-sym}
 use Rattle.sum_laws.proofs.Sums.{entries, properties}
-use Rattle.node_names.specs.View.{name_view, names_view, entry_view, entries_view}
-use Rattle.node_names.specs.declared.name.Name as code_name
-use Rattle.node_names.specs.declared.entry.Entry as code_entry
+use Rattle.op_types.specs.View.{name_view, names_view, entry_view, entries_view}
+use Rattle.op_types.specs.declared.name.Name as code_name
+use Rattle.op_types.specs.declared.entry.Entry as code_entry
 use Rattle.subtree_summary.specs.declared.entry.Told.{Told}
 use Rattle.subtree_summary.specs.Log.{told_view, properties_view}
 

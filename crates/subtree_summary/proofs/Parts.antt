@@ -18,9 +18,9 @@ use Rattle.sum_model.specs.Sums.{Key, same_key, bare, part_entries_joined}
 use Rattle.sum_laws.proofs.Same.{same_key-exact, same_key-refl, same_key-sym}
 use Rattle.sum_laws.proofs.Sums.{part_entries}
 use Rattle.sum_laws.proofs.Steps.{old_joined, new_joined, absent_joined, present_joined, set_value-seen, lookup-seen, any-seen, distinct-seen}
-use Rattle.node_names.specs.View.{name_view, names_view, key_view}
-use Rattle.node_names.specs.declared.name.Name as code
-use Rattle.node_names.specs.declared.name.NodeKey.{NodeKey}
+use Rattle.op_types.specs.View.{name_view, names_view, key_view}
+use Rattle.op_types.specs.declared.name.Name as code
+use Rattle.op_types.specs.declared.name.NodeKey.{NodeKey}
 use Rattle.subtree_summary.specs.declared.entry.PartEntry.{PartEntry}
 use Rattle.subtree_summary.specs.Log.{part_entry_view}
 use Rattle.subtree_summary.specs.Parts.{same_code_name, same_code_key, nodes_view, nodes_joined, key_in, all_fall}

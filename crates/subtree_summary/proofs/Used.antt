@@ -5,8 +5,8 @@ use Rattle.std.proofs.lemmas.List.{map-append}
 use Rattle.indexmap.specs.IndexSet.{insert_key}
 use Rattle.op_model.specs.Names.{Name}
 use Rattle.op_model.specs.Running.{with_name, used}
-use Rattle.node_names.specs.View.{name_view, names_view}
-use Rattle.node_names.specs.declared.name.Name as code
+use Rattle.op_types.specs.View.{name_view, names_view}
+use Rattle.op_types.specs.declared.name.Name as code
 use Rattle.subtree_summary.specs.Parts.{same_code_name}
 use Rattle.subtree_summary.proofs.Parts.{any_view}
 

@@ -6,7 +6,7 @@ use Rattle.op_model.specs.Ops.{Entry}
 use Rattle.sum_model.specs.Sums as model
 use Rattle.sum_model.specs.Sums.{Place, Index, same_entry, conflict_with, properties_joined}
 use Rattle.sum_laws.specs.Said.{once}
-use Rattle.node_names.specs.View.{name_view, names_view, entry_view, entries_view}
+use Rattle.op_types.specs.View.{name_view, names_view, entry_view, entries_view}
 use Rattle.subtree_summary.specs.declared.entry.SecondIndex.{SecondIndex}
 use Rattle.subtree_summary.specs.declared.entry.IndexAt.{IndexAt}
 use Rattle.subtree_summary.specs.declared.entry.Told.{Told}

@@ -7,9 +7,9 @@ use Rattle.sum_model.specs.Joins.{maps_joined}
 use Rattle.sum_model.specs.Sums as model
 use Rattle.sum_model.specs.Sums.{Placed, Key, Sum, same_key, bare, part_entries_joined, sum}
 use Rattle.sum_model.specs.Shards.{in_shard, ops_in}
-use Rattle.node_names.specs.View.{name_view, names_view, key_view}
-use Rattle.node_names.specs.declared.name.Name as code
-use Rattle.node_names.specs.declared.name.NodeKey.{NodeKey}
+use Rattle.op_types.specs.View.{name_view, names_view, key_view}
+use Rattle.op_types.specs.declared.name.Name as code
+use Rattle.op_types.specs.declared.name.NodeKey.{NodeKey}
 use Rattle.subtree_summary.specs.declared.entry.PartEntry.{PartEntry}
 use Rattle.subtree_summary.specs.declared.part.Part.{Part}
 use Rattle.subtree_summary.specs.Log.{part_entry_view, HasRoom}

@@ -7,7 +7,7 @@ use Rattle.sum_model.specs.Sums.{Place, Key, Sum, empty_sum, at_node, sum_of_one
 use Rattle.sum_model.specs.Shards.{in_shard, falls_in}
 use Rattle.op_model.specs.Names.{Name}
 use Rattle.op_model.specs.Ops.{Op}
-use Rattle.node_names.specs.declared.name.NodeKey.{NodeKey}
+use Rattle.op_types.specs.declared.name.NodeKey.{NodeKey}
 use Rattle.subtree_summary.specs.declared.entry.PartEntry.{PartEntry}
 use Rattle.subtree_summary.specs.declared.part.Part.{Part}
 use Rattle.subtree_summary.specs.Parts.{part_view, key_in, all_fall}

@@ -3,7 +3,7 @@ use Rattle.std.specs.Prelude.{List}
 use Rattle.op_model.specs.Names.{Name}
 use Rattle.op_model.specs.Ops.{Entry, entries_of}
 use Rattle.op_model.specs.Running.{uses_of_entries}
-use Rattle.node_names.specs.View.{names_view}
+use Rattle.op_types.specs.View.{names_view}
 use Rattle.subtree_summary.specs.declared.uses.LabelUses.{LabelUses}
 
 abbrev pub uses_view : LabelUses → List Name

@@ -1,12 +1,12 @@
 // What is said of a node, as a log.
 ghost use Rattle.std.specs.Prelude.{◌≡◌, [], ◌∷◌, ◌++◌, None, OnOk, IfOk, IsOk};
-ghost use Rattle.node_names.specs.View.{name_view, entry_view};
+ghost use Rattle.op_types.specs.View.{name_view, entry_view};
 ghost use Rattle.sum_model.specs.Sums as model;
 ghost use Rattle.sum_model.specs.Sums.{bare, indexes_joined, part_entries_joined, properties_joined};
 ghost use Rattle.subtree_summary.specs.Log.{second_view, index_at_view, index_view, joined_at, properties_view, part_entry_view, said, HasRoom};
 
 use ld_tree::Text;
-use node_names::{Entry, Name};
+use op_types::{Entry, Name};
 use std::alloc::{AllocError, Global};
 
 /// An index of a node that differs from the first one.

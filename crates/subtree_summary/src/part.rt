@@ -3,8 +3,8 @@ ghost use Rattle.std.specs.Prelude.{◌≡◌, [], ◌∷◌, ◌+◌, ◌<◌, 
 ghost use Rattle.std.specs.Map.{lookup, keys_of};
 ghost use Rattle.indexmap.specs.IndexMap.{spare, index_map_len};
 ghost use Rattle.op_model.specs.Names.{Name as Named};
-ghost use Rattle.node_names.specs.View.{name_view, key_view};
-ghost use Rattle.node_names.specs.declared.name.NodeKey as code;
+ghost use Rattle.op_types.specs.View.{name_view, key_view};
+ghost use Rattle.op_types.specs.declared.name.NodeKey as code;
 ghost use Rattle.sum_model.specs.Sums.{bare, empty_sum, join, at_node, same_key};
 ghost use Rattle.subtree_summary.specs.Log.{part_entry_view, said};
 ghost use Rattle.subtree_summary.specs.Parts.{same_code_key, part_view, nodes_view, nodes_joined, key_in, all_fall, HasRoomAt};
@@ -12,7 +12,7 @@ ghost use Rattle.subtree_summary.specs.Parts.{same_code_key, part_view, nodes_vi
 use crate::entry::{PartEntry, Telling};
 use crate::keyed::Keyed;
 use indexmap::{IndexMap, IndexSet};
-use node_names::{Name, NodeKey};
+use op_types::{Name, NodeKey};
 use std::alloc::{AllocError, Global};
 
 /// What operations say of graphs and nodes, each in the order of first use. Both are looked up by hashes under a key.

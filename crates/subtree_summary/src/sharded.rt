@@ -1,7 +1,7 @@
 // What is said in each shard.
 ghost use Rattle.std.specs.Prelude.{ℕ, ◌≡◌, ◌<◌, length, Some, OnOk, IfOk, IfSome};
 ghost use Rattle.sum_model.specs.Sums.{PartEntry, bare, join, empty_sum};
-ghost use Rattle.node_names.specs.View.{name_view};
+ghost use Rattle.op_types.specs.View.{name_view};
 ghost use Rattle.subtree_summary.specs.Log.{said};
 ghost use Rattle.subtree_summary.specs.Summing.{part_at, node_in, graph_in, key_at, AreInPlace};
 
@@ -9,7 +9,7 @@ use crate::entry::Telling;
 use crate::keyed::Keyed;
 use crate::part::{Part, is_key};
 use crate::shards::shard_of;
-use node_names::Name;
+use op_types::Name;
 use std::alloc::{AllocError, Global};
 
 /// Where a node stands.

@@ -2,9 +2,9 @@
 ghost use Rattle.std.specs.Prelude.{◌≡◌, ◌<◌, ◌*◌, ◌+◌, ◌%◌, ◌^◌};
 ghost use Rattle.sum_model.specs.Shards as model;
 ghost use Rattle.sum_model.specs.Shards.{folded};
-ghost use Rattle.node_names.specs.View.{name_view};
+ghost use Rattle.op_types.specs.View.{name_view};
 
-use node_names::Name;
+use op_types::Name;
 
 /// The number of the shard that a name falls in, of so many.
 pub(crate) fn shard_of(name: &Name, shards: u32) -> u32

@@ -3,7 +3,7 @@ ghost use Rattle.std.specs.Prelude.{ℕ, ◌≡◌, ◌+◌, ◌≤◌, [], leng
 ghost use Rattle.op_model.specs.Ops.{entries_of, use_label, ensure_graph, ensure_node, ensure_property, add_entry, append_list, add_type, set_index};
 ghost use Rattle.op_model.specs.Running.{used, uses_of_all};
 ghost use Rattle.sum_model.specs.Sums.{placed};
-ghost use Rattle.node_names.specs.View.{name_view, entry_view, op_view};
+ghost use Rattle.op_types.specs.View.{name_view, entry_view, op_view};
 ghost use Rattle.subtree_summary.specs.OnTheWay.{nothing_said, tell, sums_view};
 ghost use Rattle.subtree_summary.specs.Parts.{part_view, ArePartsOf};
 ghost use Rattle.subtree_summary.specs.Uses.{uses_view};
@@ -14,7 +14,7 @@ use crate::part::Part;
 use crate::sharded::Sharded;
 use crate::uses::{LabelUses, note_entries, note_entry};
 use ld_tree::Text;
-use node_names::{Entries, Entry, Name, Op, Ops};
+use op_types::{Entries, Entry, Name, Op, Ops};
 use std::alloc::{AllocError, Global};
 
 /// What the operations of a chunk add to a node map.

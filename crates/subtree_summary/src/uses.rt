@@ -2,12 +2,12 @@
 ghost use Rattle.std.specs.Prelude.{◌≡◌, [], ◌++◌, OnOk};
 ghost use Rattle.op_model.specs.Names.{blank};
 ghost use Rattle.op_model.specs.Running.{with_name, used, uses_of_entry};
-ghost use Rattle.node_names.specs.View.{name_view, entry_view};
+ghost use Rattle.op_types.specs.View.{name_view, entry_view};
 ghost use Rattle.subtree_summary.specs.Uses.{uses_view, uses_of_list};
 
 use crate::keyed::Keyed;
 use indexmap::IndexSet;
-use node_names::{Entries, Entry, Name};
+use op_types::{Entries, Entry, Name};
 use std::alloc::{AllocError, Global};
 
 /// Names that need labels, each once, in the order of first use.

@@ -2,7 +2,7 @@
 use Rattle.std.specs.Prelude.{Option, Some, None}
 use Rattle.sum_model.specs.Sums.{Place}
 use Rattle.sum_model.specs.Conflicts as model
-use Rattle.node_names.specs.View.{name_view}
+use Rattle.op_types.specs.View.{name_view}
 use Rattle.summary_merge.specs.declared.conflict.ConflictAt.{ConflictAt}
 
 abbrev pub place_of : ConflictAt → Place

@@ -4,7 +4,7 @@ use Rattle.std.specs.Coded.{Coded, code_by, coded×, coded_list, coded_ℕ, code
 use Rattle.op_model.specs.Names.{Name}
 use Rattle.op_model.specs.Ops.{Entry}
 use Rattle.sum_model.specs.Sums.{Place, Index, Key, PartEntry, Sum, empty_sum, join}
-use Rattle.node_names.specs.Codes.{name_code, entry_code}
+use Rattle.op_types.specs.Codes.{name_code, entry_code}
 
 -- The number of the first chunk, that after the last one, and what the operations of the chunks say.
 pub record RunOf : Type 0 where

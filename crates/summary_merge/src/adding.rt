@@ -3,11 +3,11 @@ ghost use Rattle.std.specs.Prelude.{◌≡◌, OnOk};
 ghost use Rattle.op_model.specs.Names.{same_name};
 ghost use Rattle.sum_model.specs.Joins.{lists_joined};
 ghost use Rattle.sum_model.specs.Sums.{join};
-ghost use Rattle.node_names.specs.View.{names_view};
+ghost use Rattle.op_types.specs.View.{names_view};
 ghost use Rattle.subtree_summary.specs.Parts.{part_view, nodes_view, nodes_joined};
 
 use indexmap::{IndexMap, IndexSet};
-use node_names::{Name, NodeKey};
+use op_types::{Name, NodeKey};
 use std::alloc::AllocError;
 use subtree_summary::{Keyed, Part, PartEntry, put_node};
 

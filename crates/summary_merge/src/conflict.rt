@@ -2,7 +2,7 @@
 ghost use Rattle.std.specs.Prelude.{◌≡◌};
 ghost use Rattle.sum_model.specs.Conflicts as model;
 ghost use Rattle.sum_model.specs.Conflicts.{is_before, earliest, earlier};
-ghost use Rattle.node_names.specs.View.{name_view};
+ghost use Rattle.op_types.specs.View.{name_view};
 ghost use Rattle.subtree_summary.specs.Log.{index_view};
 ghost use Rattle.subtree_summary.specs.Parts.{nodes_view};
 ghost use Rattle.summary_merge.specs.Conflict.{conflict_view, place_of};
@@ -10,7 +10,7 @@ ghost use Rattle.summary_merge.specs.Conflict.{conflict_view, place_of};
 use crate::run::Run;
 use indexmap::IndexMap;
 use ld_tree::Text;
-use node_names::{Name, NodeKey};
+use op_types::{Name, NodeKey};
 use subtree_summary::{IndexAt, Keyed, PartEntry};
 
 /// An operation sets a second index of a node, which differs from the first (JSON-LD 1.1 API, section 7.2, step 6.8).

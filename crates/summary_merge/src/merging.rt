@@ -7,14 +7,14 @@ ghost use Rattle.indexmap.specs.IndexSet.{insert_key};
 ghost use Rattle.op_model.specs.Names.{same_name};
 ghost use Rattle.sum_model.specs.Joins.{lists_joined};
 ghost use Rattle.sum_model.specs.Sums.{join};
-ghost use Rattle.node_names.specs.View.{names_view, key_view};
-ghost use Rattle.node_names.specs.declared.name.NodeKey as code;
+ghost use Rattle.op_types.specs.View.{names_view, key_view};
+ghost use Rattle.op_types.specs.declared.name.NodeKey as code;
 ghost use Rattle.subtree_summary.specs.Log.{part_entry_view};
 ghost use Rattle.subtree_summary.specs.Parts.{same_code_name, same_code_key, part_view, nodes_view, nodes_joined, HasRoomAt};
 ghost use Rattle.summary_merge.specs.Room.{HasRoomForAll, HasRoomForPart};
 
 use indexmap::{IndexMap, IndexSet};
-use node_names::{Name, NodeKey};
+use op_types::{Name, NodeKey};
 use std::alloc::AllocError;
 use subtree_summary::{Keyed, Part, PartEntry, put_node};
 

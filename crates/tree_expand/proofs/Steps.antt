@@ -3,7 +3,7 @@ use Rattle.std.proofs.Common.{◌≡◌, Result, Ok, Err, sym, ap, ◌∙◌, su
 use Rattle.expand_model.specs.Scope.{Fault}
 use Rattle.expand_model.specs.Rules.{◌>>=◌}
 use Rattle.expand_model.specs.Over.{Outcome, here}
-use Rattle.expand_laws.specs.Right.{outcome}
+use Rattle.range_laws.specs.Right.{outcome}
 use Rattle.tree_expand.specs.declared.stop.ExpandStop.{ExpandStop}
 use Rattle.tree_expand.specs.declared.stop.ExpandStop.TheVariants.{Refused, OutOfMemory}
 use Rattle.tree_expand.specs.Answers.{Refuses, Answers, Leaves, Gives}

@@ -81,7 +81,7 @@ pub(crate) struct NoRanges {}
 
 impl Ranges for NoRanges {
     ghost use Rattle.std.specs.Prelude.{None};
-    ghost use Rattle.expand_laws.specs.Right.{expands_each, keeps_each};
+    ghost use Rattle.range_laws.specs.Right.{expands_each, keeps_each};
 
     ghost asked = { expands_each };
 

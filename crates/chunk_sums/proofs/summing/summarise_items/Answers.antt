@@ -1,6 +1,6 @@
 use Rattle.std.proofs.Common.{◌≡◌, ℕ, length, slice_get, ap, ◌∙◌, subst}
 use Rattle.std.specs.Prelude.{IfSome}
-use Rattle.node_names.specs.View.{name_view}
+use Rattle.op_types.specs.View.{name_view}
 use Rattle.subtree_summary.specs.OnTheWay.{SoFar, sums_view}
 use Rattle.subtree_summary.specs.Parts.{part_view}
 use Rattle.chunk_sums.specs.Views.{summing_view}

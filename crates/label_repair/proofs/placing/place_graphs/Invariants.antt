@@ -1,7 +1,7 @@
 use Rattle.std.proofs.Common.{◌≡◌}
 use Rattle.std.specs.List.{AllByRecursion}
 use Rattle.op_laws.specs.Own.{HasOwn}
-use Rattle.node_names.specs.View.{names_view}
+use Rattle.op_types.specs.View.{names_view}
 use Rattle.label_repair.specs.Placed.{graphs_view, graphs_placed}
 use Rattle.label_repair.proofs.placing.place_graphs.Given as goal
 

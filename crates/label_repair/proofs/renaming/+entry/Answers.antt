@@ -3,7 +3,7 @@ use Rattle.node_model.specs.NodeMap.{list_object}
 use Rattle.op_model.specs.Ops.{list, entries_of}
 use Rattle.op_model.specs.Running.{entry_in}
 use Rattle.op_laws.specs.Own.{EntryHasOwn}
-use Rattle.node_names.specs.View.{entry_view, entry_weight}
+use Rattle.op_types.specs.View.{entry_view, entry_weight}
 use Rattle.label_repair.proofs.Lists.{each_own, each_renamed}
 use Rattle.label_repair.proofs.renaming.+entry.Goals as goal
 

@@ -3,7 +3,7 @@ use Rattle.std.specs.Prelude.{map as each}
 use Rattle.std.specs.List.{AllByRecursion}
 use Rattle.op_laws.specs.Own.{EntryHasOwn}
 use Rattle.op_model.specs.Running.{entry_in}
-use Rattle.node_names.specs.View.{entry_view, entry_weight, entries_size}
+use Rattle.op_types.specs.View.{entry_view, entry_weight, entries_size}
 use Rattle.label_repair.proofs.renaming.+entry.Given as goal
 
 abbrev pub decreases-tree_of : goal.decreases-tree_of

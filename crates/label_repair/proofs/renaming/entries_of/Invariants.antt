@@ -3,7 +3,7 @@ use Rattle.std.specs.Prelude.{map as each}
 use Rattle.std.specs.List.{AllByRecursion}
 use Rattle.op_laws.specs.Own.{EntryHasOwn}
 use Rattle.op_model.specs.Running.{entry_in}
-use Rattle.node_names.specs.View.{entries_view}
+use Rattle.op_types.specs.View.{entries_view}
 use Rattle.label_repair.proofs.renaming.entries_of.Given as goal
 
 abbrev pub invariant-loop-entry : goal.invariant-loop-entry

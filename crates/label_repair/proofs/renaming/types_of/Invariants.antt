@@ -3,7 +3,7 @@ use Rattle.std.specs.Prelude.{map as each}
 use Rattle.std.specs.List.{AllByRecursion}
 use Rattle.op_laws.specs.Own.{HasOwn}
 use Rattle.op_model.specs.Running.{label_in}
-use Rattle.node_names.specs.View.{names_view}
+use Rattle.op_types.specs.View.{names_view}
 use Rattle.label_repair.proofs.renaming.types_of.Given as goal
 
 abbrev pub invariant-loop-name : goal.invariant-loop-name

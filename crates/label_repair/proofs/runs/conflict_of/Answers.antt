@@ -1,5 +1,5 @@
 use Rattle.std.proofs.Common.{sym, ap, ◌∙◌}
-use Rattle.node_names.specs.View.{name_view}
+use Rattle.op_types.specs.View.{name_view}
 use Rattle.summary_merge.specs.Conflict.{conflict_view, place_of}
 use Rattle.label_repair.proofs.OwnConflicts.{conflict_is_owned}
 use Rattle.label_repair.proofs.runs.conflict_of.Goals as goal

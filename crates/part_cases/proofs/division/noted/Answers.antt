@@ -1,7 +1,7 @@
 use Rattle.std.proofs.Common.{refl, sym, subst, None, false}
 use Rattle.std.specs.List.{AllByRecursion}
 use Rattle.ld_tree.specs.View.{trees_view}
-use Rattle.node_names.specs.View.{name_view}
+use Rattle.op_types.specs.View.{name_view}
 use Rattle.op_laws.specs.Sound.{IsSound, IsSoundName}
 use Rattle.op_laws.proofs.Sound.{operations_are_sound}
 use Rattle.part_cases.proofs.division.noted.Goals as goal

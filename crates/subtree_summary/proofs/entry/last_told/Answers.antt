@@ -3,7 +3,7 @@ use Rattle.std.specs.Option.{option_to_list}
 use Rattle.op_model.specs.Names.{same_name}
 use Rattle.sum_model.specs.Sums.{properties_joined}
 use Rattle.sum_laws.proofs.Same.{same_name-exact}
-use Rattle.node_names.specs.View.{name_view}
+use Rattle.op_types.specs.View.{name_view}
 use Rattle.subtree_summary.specs.Log.{properties_view}
 use Rattle.subtree_summary.proofs.Logs.{ends_with, nothing_behind}
 use Rattle.subtree_summary.proofs.entry.last_told.Goals as goal

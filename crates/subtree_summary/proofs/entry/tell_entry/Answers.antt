@@ -1,5 +1,5 @@
 use Rattle.std.proofs.Common.{refl, ap, ◌∙◌}
-use Rattle.node_names.specs.View.{name_view}
+use Rattle.op_types.specs.View.{name_view}
 use Rattle.subtree_summary.specs.Log.{properties_view}
 use Rattle.subtree_summary.proofs.Logs.{entry_behind}
 use Rattle.subtree_summary.proofs.entry.tell_entry.Goals as goal

@@ -2,7 +2,7 @@ use Rattle.std.proofs.Common.{◌≡◌, [], ◌∷◌, slice_get, sym, ap, ap�
 use Rattle.sum_model.specs.Shards.{in_shard, ops_in}
 use Rattle.sum_model.specs.Sums.{placed, sum}
 use Rattle.sum_laws.proofs.Sums as laws
-use Rattle.node_names.specs.View.{op_view}
+use Rattle.op_types.specs.View.{op_view}
 use Rattle.subtree_summary.specs.OnTheWay.{SoFar, nothing_said, sums_view}
 use Rattle.subtree_summary.proofs.AllTold.{all_told, shards_told, names_told, said_told}
 use Rattle.subtree_summary.proofs.Joining.{seen_as}

@@ -1,6 +1,6 @@
 use Rattle.std.proofs.Common.{◌≡◌, ◌∷◌, arith, sym, ap, ◌∙◌}
 use Rattle.op_model.specs.Running.{used, uses_of_entry}
-use Rattle.node_names.specs.View.{entry_view, entries_size}
+use Rattle.op_types.specs.View.{entry_view, entries_size}
 use Rattle.subtree_summary.specs.Uses.{uses_view, uses_of_list}
 use Rattle.subtree_summary.proofs.Used.{used-append}
 use Rattle.subtree_summary.proofs.uses.+note.Goals as goal

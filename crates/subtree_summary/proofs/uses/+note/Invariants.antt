@@ -1,6 +1,6 @@
 use Rattle.std.proofs.Common.{◌≡◌, ◌+◌, ◌*◌, ◌≤◌}
 use Rattle.op_model.specs.Running.{used}
-use Rattle.node_names.specs.View.{entry_view, entry_weight, entries_size}
+use Rattle.op_types.specs.View.{entry_view, entry_weight, entries_size}
 use Rattle.subtree_summary.specs.Uses.{uses_view, uses_of_list}
 use Rattle.subtree_summary.proofs.uses.+note.Given as goal
 

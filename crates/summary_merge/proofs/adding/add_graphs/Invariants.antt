@@ -2,7 +2,7 @@ use Rattle.std.proofs.Common.{◌≡◌}
 use Rattle.std.specs.List.{IsDistinct}
 use Rattle.op_model.specs.Names.{same_name}
 use Rattle.sum_model.specs.Joins.{lists_joined}
-use Rattle.node_names.specs.View.{names_view}
+use Rattle.op_types.specs.View.{names_view}
 use Rattle.subtree_summary.specs.Parts.{same_code_name}
 use Rattle.summary_merge.proofs.adding.add_graphs.Given as goal
 

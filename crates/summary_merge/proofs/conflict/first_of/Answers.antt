@@ -1,7 +1,7 @@
 use Rattle.std.proofs.Common.{sym, ap, ◌∙◌}
 use Rattle.sum_model.specs.Conflicts as model
 use Rattle.sum_model.specs.Conflicts.{earliest, earlier}
-use Rattle.node_names.specs.View.{name_view}
+use Rattle.op_types.specs.View.{name_view}
 use Rattle.subtree_summary.specs.Log.{index_view}
 use Rattle.subtree_summary.specs.Parts.{nodes_view}
 use Rattle.summary_merge.specs.Conflict.{conflict_view}

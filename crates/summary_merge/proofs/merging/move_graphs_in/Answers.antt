@@ -3,7 +3,7 @@ use Rattle.std.specs.List.{IsDistinct}
 use Rattle.std.proofs.lemmas.Map.Keys.{IsDistinct-tail}
 use Rattle.op_model.specs.Names.{same_name}
 use Rattle.sum_model.specs.Joins.{lists_joined}
-use Rattle.node_names.specs.View.{names_view}
+use Rattle.op_types.specs.View.{names_view}
 use Rattle.subtree_summary.specs.Parts.{same_code_name}
 use Rattle.subtree_summary.proofs.Parts.{insert_view}
 use Rattle.summary_merge.proofs.Moves.{next_graph}

@@ -3,7 +3,7 @@ use Rattle.std.specs.List.{IsDistinct}
 use Rattle.std.specs.Map.{keys_of}
 use Rattle.std.proofs.lemmas.Map.Keys.{IsDistinct-tail}
 use Rattle.sum_laws.proofs.Sums as laws
-use Rattle.node_names.specs.declared.name.NodeKey.{NodeKey}
+use Rattle.op_types.specs.declared.name.NodeKey.{NodeKey}
 use Rattle.subtree_summary.specs.declared.entry.PartEntry.{PartEntry}
 use Rattle.subtree_summary.specs.Parts.{same_code_key, nodes_view, nodes_joined}
 use Rattle.summary_merge.specs.Room.{HasRoomForAll}

@@ -1,6 +1,6 @@
 use Rattle.ld_tree.specs.View.{view}
-use Rattle.expand_laws.specs.Right.{expands_each, keeps_each}
-use Rattle.expand_laws.proofs.Plain.{document_run}
+use Rattle.range_laws.specs.Right.{expands_each, keeps_each}
+use Rattle.range_laws.proofs.Plain.{document_run}
 use Rattle.tree_expand.proofs.Steps.{answers_of}
 use Rattle.tree_expand.proofs.document.expand_document.Goals as goal
 

@@ -4,8 +4,8 @@ use Rattle.ld_tree.specs.View.{trees_view}
 use Rattle.ctx_types.specs.ContextView.{context_view}
 use Rattle.expand_model.specs.Expand.{items}
 use Rattle.expand_types.specs.View.{word_view}
-use Rattle.expand_laws.specs.Right.{expands_each, keeps_each}
-use Rattle.expand_laws.proofs.Plain.{items_run}
+use Rattle.range_laws.specs.Right.{expands_each, keeps_each}
+use Rattle.range_laws.proofs.Plain.{items_run}
 use Rattle.tree_expand.proofs.Steps.{answers_of}
 use Rattle.tree_expand.proofs.document.expand_range.Goals as goal
 

@@ -1,6 +1,6 @@
 use Rattle.std.proofs.Common.{sym, ap, ◌∙◌}
 use Rattle.op_model.specs.Running.{with_name}
-use Rattle.node_names.specs.View.{name_view, names_view}
+use Rattle.op_types.specs.View.{name_view, names_view}
 use Rattle.label_repair.proofs.Names.{already_there, inserted}
 use Rattle.label_repair.proofs.labels.Labels.note.Goals as goal
 

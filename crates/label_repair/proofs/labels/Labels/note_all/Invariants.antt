@@ -1,6 +1,6 @@
 use Rattle.std.proofs.Common.{◌≡◌}
 use Rattle.op_model.specs.Running.{used}
-use Rattle.node_names.specs.View.{names_view}
+use Rattle.op_types.specs.View.{names_view}
 use Rattle.label_repair.proofs.labels.Labels.note_all.Given as goal
 
 -- What is left gives labels to the rest.

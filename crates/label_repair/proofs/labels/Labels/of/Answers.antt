@@ -1,5 +1,5 @@
 use Rattle.std.proofs.Common.{ap, ◌∙◌}
-use Rattle.node_names.specs.View.{name_view}
+use Rattle.op_types.specs.View.{name_view}
 use Rattle.shard_model.specs.Numbered.{number_of}
 use Rattle.label_repair.proofs.Names.{place_is_number}
 use Rattle.label_repair.proofs.labels.Labels.of.Goals as goal

@@ -1,7 +1,7 @@
 use Rattle.std.proofs.Common.{Some, None, sym, ap, ◌∙◌}
 use Rattle.std.proofs.lemmas.List.{length-map}
 use Rattle.op_model.specs.Running.{place_of}
-use Rattle.node_names.specs.View.{name_view}
+use Rattle.op_types.specs.View.{name_view}
 use Rattle.label_repair.proofs.Names.{place_is}
 use Rattle.label_repair.proofs.labels.Labels.place.Goals as goal
 

@@ -1,7 +1,7 @@
 use Rattle.std.proofs.Common.{ap, ◌∙◌}
 use Rattle.op_model.specs.Names.{same_name}
 use Rattle.sum_laws.specs.Said.{once}
-use Rattle.node_names.specs.View.{names_view}
+use Rattle.op_types.specs.View.{names_view}
 use Rattle.sum_model.specs.Sums.{indexes_joined}
 use Rattle.subtree_summary.specs.Log.{index_view, properties_view}
 use Rattle.subtree_summary.proofs.Logs.{types-append, properties-append}

@@ -3,7 +3,7 @@ use Rattle.op_model.specs.Names.{same_name}
 use Rattle.sum_model.specs.Sums.{indexes_joined, part_entries_joined}
 use Rattle.sum_laws.specs.Said.{once}
 use Rattle.sum_laws.proofs.Sums as laws
-use Rattle.node_names.specs.View.{names_view}
+use Rattle.op_types.specs.View.{names_view}
 use Rattle.subtree_summary.specs.Log.{index_view, index_at_view, properties_view, part_entry_view, said}
 use Rattle.subtree_summary.proofs.Logs.{types-append}
 use Rattle.subtree_summary.proofs.entry.PartEntry.tell.Goals as goal

@@ -2,7 +2,7 @@ use Rattle.std.proofs.Common.{[], ◌∷◌, sym, ap, ◌∙◌}
 use Rattle.op_model.specs.Names.{same_name}
 use Rattle.sum_model.specs.Joins.{lists_joined}
 use Rattle.sum_laws.proofs.Sums as laws
-use Rattle.node_names.specs.View.{names_view}
+use Rattle.op_types.specs.View.{names_view}
 use Rattle.subtree_summary.specs.Parts.{nodes_view}
 use Rattle.subtree_summary.proofs.Parts.{insert_view}
 use Rattle.subtree_summary.proofs.part.Part.add_graph.Goals as goal

@@ -3,7 +3,7 @@ use Rattle.std.specs.Prelude.{option_map}
 use Rattle.std.specs.Map.{lookup, keys_of}
 use Rattle.sum_model.specs.Sums.{Key, bare}
 use Rattle.sum_laws.proofs.Sums as laws
-use Rattle.node_names.specs.View.{names_view}
+use Rattle.op_types.specs.View.{names_view}
 use Rattle.subtree_summary.specs.Parts.{same_code_key, nodes_view, nodes_joined, key_in, all_fall}
 use Rattle.subtree_summary.proofs.Parts.{added, inserted, already_there, found_at, last_at, all_fall-added}
 use Rattle.subtree_summary.proofs.part.Part.index_of.Goals as goal

@@ -3,8 +3,8 @@ use Rattle.std.specs.Prelude.{option_map}
 use Rattle.indexmap.proofs.CallerLemmas.{keys-with_value_at}
 use Rattle.sum_model.specs.Joins.{or_empty}
 use Rattle.sum_laws.proofs.Sums as laws
-use Rattle.node_names.specs.View.{names_view, key_view}
-use Rattle.node_names.specs.declared.name.NodeKey.{NodeKey}
+use Rattle.op_types.specs.View.{names_view, key_view}
+use Rattle.op_types.specs.declared.name.NodeKey.{NodeKey}
 use Rattle.subtree_summary.specs.declared.entry.PartEntry.{PartEntry}
 use Rattle.subtree_summary.specs.Log.{said}
 use Rattle.subtree_summary.specs.Parts.{nodes_view, nodes_joined}

@@ -4,8 +4,8 @@ use Rattle.std.proofs.lemmas.Option.{slice_get_read}
 use Rattle.sum_model.specs.Joins.{or_empty}
 use Rattle.sum_model.specs.Sums.{same_key}
 use Rattle.sum_laws.proofs.Same.{same_key-exact}
-use Rattle.node_names.specs.View.{name_view, key_view}
-use Rattle.node_names.specs.declared.name.NodeKey.{NodeKey}
+use Rattle.op_types.specs.View.{name_view, key_view}
+use Rattle.op_types.specs.declared.name.NodeKey.{NodeKey}
 use Rattle.subtree_summary.specs.declared.entry.PartEntry.{PartEntry}
 use Rattle.subtree_summary.specs.declared.part.Part.{Part}
 use Rattle.subtree_summary.specs.Parts.{key_in}

@@ -1,5 +1,5 @@
 use Rattle.std.proofs.Common.{[], ◌∷◌}
-use Rattle.node_names.specs.View.{name_view}
+use Rattle.op_types.specs.View.{name_view}
 use Rattle.subtree_summary.proofs.Joining.{part_there, put_in_shard}
 use Rattle.subtree_summary.proofs.sharded.Sharded.make_graph.Goals as goal
 

@@ -1,6 +1,6 @@
 use Rattle.std.proofs.Common.{[], ap, ◌∙◌}
 use Rattle.sum_model.specs.Sums.{bare, at_node}
-use Rattle.node_names.specs.View.{name_view}
+use Rattle.op_types.specs.View.{name_view}
 use Rattle.subtree_summary.specs.declared.part.Part.{Part}
 use Rattle.subtree_summary.specs.Parts.{key_in}
 use Rattle.subtree_summary.proofs.Joining.{part_there, put_in_shard, changed_here}

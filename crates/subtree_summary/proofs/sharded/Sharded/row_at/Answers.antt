@@ -1,4 +1,4 @@
-use Rattle.node_names.specs.View.{name_view}
+use Rattle.op_types.specs.View.{name_view}
 use Rattle.subtree_summary.specs.Summing.{part_at}
 use Rattle.subtree_summary.proofs.Joining.{told_of_made}
 use Rattle.subtree_summary.proofs.sharded.Sharded.row_at.Goals as goal

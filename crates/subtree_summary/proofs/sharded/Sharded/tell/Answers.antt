@@ -4,7 +4,7 @@ use Rattle.std.proofs.lemmas.Option.{slice_get_read}
 use Rattle.sum_model.specs.Joins.{or_empty}
 use Rattle.sum_model.specs.Shards.{shard_of}
 use Rattle.sum_model.specs.Sums.{Key, at_node, join}
-use Rattle.node_names.specs.View.{name_view}
+use Rattle.op_types.specs.View.{name_view}
 use Rattle.subtree_summary.specs.declared.part.Part.{Part}
 use Rattle.subtree_summary.specs.Log.{said}
 use Rattle.subtree_summary.specs.Parts.{key_in}

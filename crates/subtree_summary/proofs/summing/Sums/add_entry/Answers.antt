@@ -1,7 +1,7 @@
 use Rattle.std.proofs.Common.{ap, ◌∙◌}
 use Rattle.op_model.specs.Names.{blank}
 use Rattle.op_model.specs.Running.{used, uses_of_entry}
-use Rattle.node_names.specs.View.{name_view, entry_view}
+use Rattle.op_types.specs.View.{name_view, entry_view}
 use Rattle.subtree_summary.specs.Uses.{uses_view}
 use Rattle.subtree_summary.proofs.Used.{used-fourth}
 use Rattle.subtree_summary.proofs.summing.Sums.add_entry.Goals as goal

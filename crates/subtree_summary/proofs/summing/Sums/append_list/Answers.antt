@@ -1,7 +1,7 @@
 use Rattle.std.proofs.Common.{ap, ◌∙◌}
 use Rattle.op_model.specs.Names.{blank}
 use Rattle.op_model.specs.Running.{used}
-use Rattle.node_names.specs.View.{name_view}
+use Rattle.op_types.specs.View.{name_view}
 use Rattle.subtree_summary.specs.Uses.{uses_view, uses_of_list}
 use Rattle.subtree_summary.proofs.Used.{used-fourth}
 use Rattle.subtree_summary.proofs.summing.Sums.append_list.Goals as goal

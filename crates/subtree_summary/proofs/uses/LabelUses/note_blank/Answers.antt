@@ -1,5 +1,5 @@
 use Rattle.std.proofs.Common.{sym, ap, ◌∙◌}
-use Rattle.node_names.specs.View.{names_view}
+use Rattle.op_types.specs.View.{names_view}
 use Rattle.op_model.specs.Running.{with_name}
 use Rattle.subtree_summary.proofs.Used.{already_used, inserted_name}
 use Rattle.subtree_summary.proofs.uses.LabelUses.note_blank.Goals as goal

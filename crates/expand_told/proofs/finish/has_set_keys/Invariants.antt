@@ -1,7 +1,0 @@
-use Rattle.std.proofs.Common.{◌≡◌}
-use Rattle.std.specs.List.{list_all}
-use Rattle.expand_model.specs.Finish.{is_set_key}
-use Rattle.expand_told.proofs.finish.has_set_keys.Given as goal
-
-abbrev pub invariant-loop-key : goal.invariant-loop-key
-invariant-loop-key l = list_all is_set_key l.key-iterator ≡ list_all is_set_key l.initial.key-iterator

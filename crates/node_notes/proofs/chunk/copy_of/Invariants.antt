@@ -1,6 +1,0 @@
-use Rattle.std.proofs.Common.{◌≡◌, ◌++◌, drop}
-use Rattle.ld_tree.specs.View.{trees_view}
-use Rattle.node_notes.proofs.chunk.copy_of.Given as goal
-
-abbrev pub invariant-loop-item : goal.invariant-loop-item
-invariant-loop-item l = l.copy ++ trees_view (drop l.item-index l.items) ≡ trees_view l.items

@@ -1,5 +1,0 @@
-use Rattle.outcome_laws.proofs.PlainItems as proved
-use Rattle.outcome_laws.proofs.a_plain_document_expands_to_itself.Goals as goal
-
-pub returns : goal.returns
-returns c = proved.a_plain_document_expands_to_itself

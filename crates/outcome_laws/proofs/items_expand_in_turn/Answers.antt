@@ -1,5 +1,0 @@
-use Rattle.outcome_laws.proofs.Turns as proved
-use Rattle.outcome_laws.proofs.items_expand_in_turn.Goals as goal
-
-pub returns : goal.returns
-returns c = proved.items_expand_in_turn

@@ -1,5 +1,0 @@
-use Rattle.outcome_laws.proofs.ObjectNodes as proved
-use Rattle.outcome_laws.proofs.outcome_is_made_of_objects.Goals as goal
-
-pub returns : goal.returns
-returns c = proved.outcome_is_made_of_objects

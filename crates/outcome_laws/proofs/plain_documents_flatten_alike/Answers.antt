@@ -1,5 +1,0 @@
-use Rattle.outcome_laws.proofs.PlainStatements as proved
-use Rattle.outcome_laws.proofs.plain_documents_flatten_alike.Goals as goal
-
-pub returns : goal.returns
-returns c = proved.plain_documents_flatten_alike

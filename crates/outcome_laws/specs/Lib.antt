@@ -1,3 +1,0 @@
-pub mod Statements
-pub mod Objects
-pub mod Laws
