@@ -10,7 +10,7 @@ ghost use Rattle.flatten_out.specs.Only.{is_only_default};
 use crate::graphs::{graph_of, graphs_into};
 use crate::nodes::nodes_of;
 use ld_tree::{Members, Tree, Trees};
-use node_ops::NodeMap;
+use node_types::NodeMap;
 use std::alloc::{AllocError, Global};
 
 /// The flattened form of a node map, as an array (JSON-LD 1.1 API, section 7.1, steps 3 to 7): the nodes of the default graph in the

@@ -7,9 +7,9 @@ use Rattle.ld_tree.specs.Built.{built}
 use Rattle.ld_tree.specs.declared.value.Tree.{Tree}
 use Rattle.node_model.specs.Maps.{MapOf}
 use Rattle.node_model.specs.NodeMap.{Conflict}
-use Rattle.node_ops.specs.Views.{conflict_view}
-use Rattle.node_ops.specs.declared.generation.MapStop.{MapStop}
-use Rattle.node_ops.specs.declared.generation.MapStop.TheVariants as stop
+use Rattle.node_types.specs.Views.{conflict_view}
+use Rattle.node_types.specs.declared.generated.MapStop.{MapStop}
+use Rattle.node_types.specs.declared.generated.MapStop.TheVariants as stop
 use Rattle.node_logs.specs.Views.{shown}
 use Rattle.sum_model.specs.Sums.{Place}
 use Rattle.shard_model.specs.Renamed as model

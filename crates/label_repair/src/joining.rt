@@ -9,7 +9,7 @@ ghost use Rattle.label_repair.specs.Shards.{place_of, conflict_in, pairs_view, g
 
 use crate::shard::{NodeShard, Pairs, PlacedConflict};
 use ld_tree::{Members, Text, Tree};
-use node_ops::{MapStop, NodeMap};
+use node_types::{MapStop, NodeMap};
 use std::alloc::{AllocError, Global};
 use std::collections::BTreeMap;
 

@@ -14,7 +14,7 @@ ghost use Rattle.label_repair.specs.Renaming.{IsOwn, told_renamed};
 use crate::labels::Labels;
 use ld_tree::{Text, Tree, Trees};
 use node_logs::{Node, Told, list_object, reference};
-use node_ops::label_text;
+use node_types::label_text;
 use op_types::{Entries, Entry, Name};
 use std::alloc::{AllocError, Global};
 use subtree_summary::{IndexAt, PartEntry, Told as Said};

@@ -16,7 +16,7 @@ use crate::placing::place_part;
 use crate::renaming::label;
 use crate::shard::{NodeShard, Pairs, PlacedConflict};
 use ld_tree::Text;
-use node_ops::Conflict;
+use node_types::Conflict;
 use std::alloc::{AllocError, Global};
 use subtree_summary::Part;
 use summary_merge::{ConflictAt, Run, first_conflict};

@@ -1,6 +1,6 @@
 // Shards of a node map.
 use ld_tree::{Text, Tree};
-use node_ops::Conflict;
+use node_types::Conflict;
 
 /// The conflict of two indexes of a node, and where it is.
 #[derive(Drop)]

@@ -10,8 +10,8 @@ use Rattle.ctx_store.specs.declared.store.StoreRefusal.{StoreRefusal}
 use Rattle.ctx_store.specs.declared.store.StoreRefusal.TheVariants as store
 use Rattle.tree_expand.specs.declared.stop.ExpandStop.{ExpandStop}
 use Rattle.tree_expand.specs.declared.stop.ExpandStop.TheVariants as expand
-use Rattle.node_ops.specs.declared.generation.MapStop.{MapStop}
-use Rattle.node_ops.specs.declared.generation.MapStop.TheVariants as map
+use Rattle.node_types.specs.declared.generated.MapStop.{MapStop}
+use Rattle.node_types.specs.declared.generated.MapStop.TheVariants as map
 use Rattle.ld_run.specs.declared.status.Refusal.{Refusal}
 use Rattle.ld_run.specs.declared.status.Refusal.TheVariants as refusal
 use Rattle.ld_run.specs.declared.status.Status.{Status}

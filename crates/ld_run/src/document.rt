@@ -12,6 +12,7 @@ use flatten_out::into_flattened;
 use ld_json::{Text, Tree, Trees, read_tree, text_of};
 use node_parts::node_map_by_parts;
 use std::alloc::{AllocError, Global};
+use std::mem;
 use tree_expand::expand_document;
 
 /// The items that an order gives for a document, with the contexts of the store. What a stage no longer needs is let go before the
@@ -33,8 +34,10 @@ pub(crate) fn items_for(
 pub(crate) fn text_line(alloc: Global, items: Trees) -> Result<Vec<u8>, AllocError>
     ensures { IfOk result (λ v. v.items ≡ text_line items) }
 {
-    let mut text = text_of(alloc, &Tree::Items(items))?;
+    let items = Tree::Items(items);
+    let mut text = text_of(alloc, &items)?;
     text.push(b'\n')?;
+    mem::forget(items);
     Ok(text)
 }
 

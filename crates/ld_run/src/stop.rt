@@ -5,7 +5,7 @@ use crate::status::{Refusal, Status};
 use ctx_store::StoreRefusal;
 use ld_io::ReadStop;
 use ld_json::ReadRefusal;
-use node_ops::MapStop;
+use node_types::MapStop;
 use std::alloc::AllocError;
 use tree_expand::ExpandStop;
 

@@ -1,11 +1,11 @@
 // Labels of blank nodes, and how they are issued (JSON-LD 1.1 API, section 7.4).
 ghost use Rattle.std.specs.Prelude.{◌≡◌, ◌+◌, OnOk, IfOk};
-ghost use Rattle.ld_model.specs.Label.{label_of};
 ghost use Rattle.node_model.specs.Labels as model;
 ghost use Rattle.node_model.specs.Maps.{with_at};
 ghost use Rattle.node_ops.specs.Views.{labels_view};
 
 use ld_tree::Text;
+use node_types::label_text;
 use std::alloc::{AllocError, Global};
 use std::collections::BTreeMap;
 
@@ -95,12 +95,4 @@ fn give(given: &mut BTreeMap<Text, u64>, text: Text, number: u64) -> Result<(), 
         Ok(_) => Ok(()),
         Err(_) => Err(AllocError),
     }
-}
-
-/// The label with this number, `_:b0` for the first one. Fails only where memory is refused.
-pub fn label_text(alloc: Global, number: u64) -> Result<Text, AllocError>
-    ensures { IfOk result (λ t. t ≡ label_of number) }
-{
-    let text = format!(in alloc; "_:b{number}")?;
-    Ok(Text::from_string(text)?)
 }

@@ -3,12 +3,13 @@ ghost use Rattle.std.specs.Prelude.{◌≡◌, None, OnOk, IfOk, ◌∷◌, [], 
 ghost use Rattle.std.specs.Str.{bytes_eq};
 ghost use Rattle.node_model.specs.Labels.{no_labels};
 ghost use Rattle.node_model.specs.Generating.{or_conflict};
-ghost use Rattle.node_ops.specs.Views.{state_view, conflict_in};
+ghost use Rattle.node_ops.specs.Views.{state_view};
+ghost use Rattle.node_types.specs.Views.{conflict_in};
 
-use crate::generation::Conflict;
 use crate::labels::Labels;
 use ld_tree::{Text, Tree, Trees};
 use node_logs::{Gathered, Telling, list_object, reference};
+use node_types::Conflict;
 use node_walk::Gather;
 use std::alloc::{AllocError, Global};
 

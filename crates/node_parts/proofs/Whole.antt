@@ -7,9 +7,9 @@ use Rattle.ld_model.specs.Tree.{Tree}
 use Rattle.ld_model.specs.Tree.{Pairs}
 use Rattle.node_model.specs.NodeMap.{Conflict}
 use Rattle.node_model.specs.Generating.{generate}
-use Rattle.node_ops.specs.Views.{Stops}
-use Rattle.node_ops.specs.declared.generation.MapStop.{MapStop}
-use Rattle.node_ops.specs.declared.generation.MapStop.TheVariants as stop
+use Rattle.node_types.specs.Views.{Stops}
+use Rattle.node_types.specs.declared.generated.MapStop.{MapStop}
+use Rattle.node_types.specs.declared.generated.MapStop.TheVariants as stop
 use Rattle.label_repair.specs.Shards.{StopsJoined}
 use Rattle.label_repair.specs.Finished.{FinishedShard, finished, finished_joined}
 use Rattle.label_repair.proofs.Finished.{finished_is_joined}

@@ -1,7 +1,7 @@
 // The node map, by the sums of chunks.
 ghost use Rattle.std.specs.Prelude.{◌≡◌, ◌+◌, [], ◌∷◌, ◌++◌, length, slice_get, Ok, MatchResult, IfOk, IfSome, OnOk, map as each};
 ghost use Rattle.node_model.specs.Generating.{generate};
-ghost use Rattle.node_ops.specs.Views.{Stops};
+ghost use Rattle.node_types.specs.Views.{Stops};
 ghost use Rattle.op_model.specs.Noting.{top_range, ops_of};
 ghost use Rattle.subtree_summary.specs.Parts.{part_view};
 ghost use Rattle.subtree_summary.specs.Uses.{uses_view};
@@ -15,7 +15,7 @@ use crate::digest::digest_of;
 use chunk_sums::summarise_items;
 use label_repair::{Labels, NodeShard, join_shards, number_labels, rename};
 use ld_tree::Trees;
-use node_ops::{MapStop, NodeMap};
+use node_types::{MapStop, NodeMap};
 use std::alloc::{AllocError, Global};
 use subtree_summary::{Keyed, LabelUses, Part};
 use summary_merge::{Run, merge_next};

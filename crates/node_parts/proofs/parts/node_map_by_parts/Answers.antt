@@ -1,5 +1,5 @@
 use Rattle.std.proofs.Common.{◌≡◌, [], ◌∷◌, length, Ok, sym, subst, ap, ◌∙◌}
-use Rattle.node_ops.specs.Views.{Stops}
+use Rattle.node_types.specs.Views.{Stops}
 use Rattle.summary_merge.specs.Runs.{RunOf}
 use Rattle.shard_model.specs.Numbered.{names_of}
 use Rattle.shard_model.specs.Joined.{with_count}
