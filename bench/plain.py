@@ -1,10 +1,9 @@
 #!/usr/bin/env python3
 """Writes a plain JSON-LD document of about a given size: plain.py BYTES [SEED].
 
-Node i has a label, a reference to another node and two tags, chosen by the linear congruential generator
-x(0) = SEED, x(i+1) = (1103515245 x(i) + 12345) mod 2^31. The same seed and size give the same bytes.
+Node i has a label, a reference to another node and two tags, chosen by the numbers of making.py.
 """
-import sys
+from making import count_for, numbers, size_and_seed, write_items
 
 
 def node(i, x, count):
@@ -16,24 +15,11 @@ def node(i, x, count):
     ) % (i, i, x % count, (x // 65536) % 3, (x // 8192) % 3)
 
 
-def nodes(size):
-    """How many nodes make a document of about that size."""
-    count = 1
-    while count * len(node(count, count - 1, count)) < size:
-        count = count * 5 // 4 + 1
-    return max(1, size // (len(node(count, count - 1, count)) + 1))
-
-
 def main():
-    size = int(sys.argv[1])
-    x = int(sys.argv[2]) if len(sys.argv) > 2 else 1
-    count = nodes(size)
-    out = sys.stdout
-    out.write("[")
-    for i in range(count):
-        out.write(("," if i else "") + node(i, x, count))
-        x = (1103515245 * x + 12345) % 2**31
-    out.write("]")
+    size, seed = size_and_seed(__doc__)
+    count = count_for(size, lambda count: len(node(count, count - 1, count)))
+    write_items("[", (node(i, x, count) for i, x in zip(range(count), numbers(seed))), "]")
 
 
-main()
+if __name__ == "__main__":
+    main()

@@ -2,10 +2,11 @@
 """Writes N-Quads of about a given size: quads.py BYTES [SEED].
 
 They are those of a document of nodes, each with a label, a reference to another node, a part, a list of two numbers and
-two tags: eleven quads a node, with plain literals, typed ones, IRIs and blank nodes. The numbers come from the linear
-congruential generator x(0) = SEED, x(i+1) = (1103515245 x(i) + 12345) mod 2^31. The same seed and size give the same bytes.
+two tags: eleven quads a node, with plain literals, typed ones, IRIs and blank nodes. The numbers are those of making.py.
 """
 import sys
+
+from making import numbers, size_and_seed
 
 RDF = "http://www.w3.org/1999/02/22-rdf-syntax-ns#"
 XSD = "http://www.w3.org/2001/XMLSchema#"
@@ -29,12 +30,10 @@ def node(i, x, count):
 
 
 def main():
-    size = int(sys.argv[1])
-    x = int(sys.argv[2]) if len(sys.argv) > 2 else 1
+    size, seed = size_and_seed(__doc__)
     count = max(1, size // len(node(50000, 50000, 100000)))
-    for i in range(count):
+    for i, x in zip(range(count), numbers(seed)):
         sys.stdout.write(node(i, x, count))
-        x = (1103515245 * x + 12345) % 2**31
 
 
 if __name__ == "__main__":

@@ -3,6 +3,7 @@
 
 Usage: run.py PROGRAM [BYTES ..]       plain documents of about so many bytes (1, 10 and 100 MB where none is given), flattened
        run.py PROGRAM expand [BYTES ..]  the same documents, and catalogues under one context, expanded
+       run.py PROGRAM made [BYTES ..]  documents of persons.py, records.py and catalogue.py (10 and 100 MB), expanded and flattened
        run.py PROGRAM contexts [COUNT ..]  documents of each shape of contexts.py (10,000 and 100,000), expanded
        run.py PROGRAM shapes [COUNT ..]  documents of each shape of shapes.py (10,000, 30,000 and 100,000)
        run.py PROGRAM greatest        two documents of 256 MiB, the greatest that is read: the usual one, and one of small objects
@@ -56,14 +57,20 @@ def head():
     print("%-24s %11s %8s %9s %8s %8s %9s %7s %7s" % ("document", "bytes", "cpu s", "peak MB", "B/byte", "jq s", "jq MB", "time", "memory"))
 
 
-def row(program, name, path, words=("flatten",)):
+def beside(path):
+    """Processor seconds and peak bytes of jq on the file, where there is one."""
+    jq = shutil.which("jq")
+    return measure([jq, "-c", "."], path)[1:] if jq else None
+
+
+def row(program, name, path, words=("flatten",), jq=None):
+    """A row of the table. `jq` is what jq took, where it was measured before."""
     length = os.path.getsize(path)
     _, cpu, peak = measure([program, *words], path)
     line = "%-24s %11d %8.3f %9.1f %8.1f" % (name, length, cpu, peak / 1e6, peak / length)
-    jq = shutil.which("jq")
+    jq = jq or beside(path)
     if jq:
-        _, theirs, their_peak = measure([jq, "-c", "."], path)
-        line += " %8.3f %9.1f %7.2f %7.2f" % (theirs, their_peak / 1e6, cpu / theirs, peak / their_peak)
+        line += " %8.3f %9.1f %7.2f %7.2f" % (jq[0], jq[1] / 1e6, cpu / jq[0], peak / jq[1])
     else:
         line += " %8s %9s %7s %7s" % ("-", "-", "-", "-")
     print(line, flush=True)
@@ -88,6 +95,15 @@ def expanded(program, path, sizes):
         # a record of the catalogue has some 220 bytes
         written(path, "contexts.py", "catalogue", max(1, size // 220), "contexts")
         row(program, "catalogue", path, words=("expand",))
+
+
+def made(program, path, sizes):
+    for maker in ("persons", "records", "catalogue"):
+        for size in sizes:
+            written(path, maker + ".py", size)
+            jq = beside(path)
+            for word in ("expand", "flatten"):
+                row(program, "%s, %s" % (maker, word), path, words=(word,), jq=jq)
 
 
 def each_context(program, path, counts):
@@ -133,6 +149,8 @@ def main():
             greatest(program, path)
         elif words[:1] == ["expand"]:
             expanded(program, path, [int(word) for word in words[1:]] or [10**6, 10**7, 10**8])
+        elif words[:1] == ["made"]:
+            made(program, path, [int(word) for word in words[1:]] or [10**7, 10**8])
         elif words[:1] == ["contexts"]:
             each_context(program, path, [int(word) for word in words[1:]] or [10**4, 10**5])
         else:

@@ -26,13 +26,15 @@ check archive.jsonld 0 archive.flattened.jsonld '' flatten < archive.jsonld
 check conflict.jsonld 1 /dev/null 'error: conflicting indexes at http://library.example/book/walden' flatten < conflict.jsonld
 if command -v jq > /dev/null; then
   check 'two catalogues' 0 merged.flattened.jsonld '' flatten < <(jq -c -n '[inputs[]]' catalogue.jsonld donation.jsonld)
+  check 'labels apart' 0 apart.flattened.jsonld '' flatten < <(jq -c -n -f apart.jq loans.jsonld returns.jsonld)
 else
-  echo 'skipped: two catalogues, there is no jq here'
+  echo 'skipped: what puts two documents together, since there is no jq here'
 fi
 
 # its contexts stand in the folder `contexts` beside it
 cd library || exit 1
 check library.jsonld 0 library.expanded.jsonld '' expand --base http://library.example/ --contexts < library.jsonld
+check 'library.jsonld flattened' 0 library.flattened.jsonld '' flatten --base http://library.example/ --contexts < library.jsonld
 check 'library.jsonld without its contexts' 1 /dev/null 'error: loading remote context failed at the root' expand < library.jsonld
 check wrong.jsonld 1 /dev/null 'error: invalid value object at /@graph/0/author/born' expand --base http://library.example/ --contexts < wrong.jsonld
 exit "$failed"
