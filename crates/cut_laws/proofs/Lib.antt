@@ -11,4 +11,5 @@ pub mod Beside
 pub mod Cut
 pub mod KeysApart
 pub mod Few
+pub mod LegalTest
 mod Theorems

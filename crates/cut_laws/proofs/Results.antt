@@ -1,5 +1,5 @@
 -- The results of a legal and faithful plan's pieces, from the first one on, make the expansion: all of them, or those up to an error.
-use Rattle.std.proofs.Common.{ℕ, ◌≡◌, List, [], ◌∷◌, ◌++◌, Bool, true, false, Option, None, Some, Result, Ok, Err, sym, ap, ◌∙◌, subst}
+use Rattle.std.proofs.Common.{ℕ, ◌≡◌, List, [], ◌∷◌, ◌++◌, Bool, true, false, Option, Some, Result, Ok, Err, sym, ap, ◌∙◌, subst}
 use Rattle.std.specs.Prelude.{if◌then◌else◌}
 use Rattle.std.specs.List.{AllByRecursion}
 use Rattle.ld_model.specs.Tree.{Tree, Trees}
@@ -13,17 +13,10 @@ use Rattle.cut_model.specs.Legal.{IsNonEmpty, AreApart, IsLegal}
 use Rattle.cut_model.specs.Reached.{reached_of, IsFaithful}
 use Rattle.cut_model.specs.Answers.{RangeAnswer, answer_of, IsAnswered}
 use Rattle.cut_model.specs.Grafting.{AreResults, known_by}
+use Rattle.cut_laws.proofs.Lists.{is_some, some_or}
 use Rattle.cut_laws.proofs.Places.{begins_itself, apart_begin}
 use Rattle.cut_laws.proofs.RightAnswers.{IsOfRanges, answered_run}
 use Rattle.cut_laws.proofs.LastReached.{GoesOn, AllButLast, reached_ends}
-
-abbrev some_or : {X : Type 0} → X → Option X → X
-some_or d None = d
-some_or d (Some x) = x
-
-abbrev is_some : {X : Type 0} → Option X → Type 0
-is_some None = ⊥
-is_some (Some x) = Unit {0}
 
 -- A result stands where the plan has a range.
 grafted_ranges : (plan : List Piece) (ds : List (Result (List Tree) Fault)) → IsOfRanges (known_by plan ds) (ranges_of plan)

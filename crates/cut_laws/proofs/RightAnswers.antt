@@ -12,7 +12,7 @@ use Rattle.range_laws.proofs.Plain.{document_run}
 use Rattle.cut_model.specs.Pieces.{Piece, Ranges, count_behind}
 use Rattle.cut_model.specs.Reached.{right_answer, noted, notes_ranges, reached_of}
 use Rattle.cut_model.specs.Answers.{RangeAnswer, RangeAnswers, answer_of, IsAnswered}
-use Rattle.cut_laws.proofs.Lists.{all_split}
+use Rattle.cut_laws.proofs.Lists.{is_some, some_or, all_split}
 use Rattle.cut_laws.proofs.Regions.{Region}
 use Rattle.cut_laws.proofs.TwoRuns.{Rules, document_both}
 
@@ -30,16 +30,8 @@ abbrev is_ok : {X : Type 0} → Result X Fault → Type 0
 is_ok (Ok x) = Unit {0}
 is_ok (Err f) = ⊥
 
-abbrev some_or : {X : Type 0} → X → Option X → X
-some_or d None = d
-some_or d (Some x) = x
-
 some_value : {X : Type 0} (x y : X) → Some x ≡ Some y → x ≡ y
 some_value x y p = ap (some_or x) p
-
-abbrev is_some : {X : Type 0} → Option X → Type 0
-is_some None = ⊥
-is_some (Some x) = Unit {0}
 
 abbrev pub Equal : (X : Type 0) → X → X → Type 0
 Equal X x y = x ≡ y

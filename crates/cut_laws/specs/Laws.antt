@@ -1,10 +1,11 @@
 -- The laws of cutting a document for expansion.
-use Rattle.std.specs.Prelude.{ℕ, ◌≡◌, ◌≤◌, List, length, Result}
+use Rattle.std.specs.Prelude.{ℕ, ◌≡◌, ◌≤◌, ◌↔◌, true, List, length, Result}
 use Rattle.ld_model.specs.Tree.{Tree}
 use Rattle.expand_model.specs.Scope.{Options, Fault}
 use Rattle.expand_model.specs.Expand.{document}
 use Rattle.cut_model.specs.Pieces.{Piece}
 use Rattle.cut_model.specs.Legal.{IsLegal}
+use Rattle.cut_model.specs.LegalTest.{is_legal}
 use Rattle.cut_model.specs.Reached.{IsFaithful}
 use Rattle.cut_model.specs.Answers.{RangeAnswers, document_with, AreRightWhereReached}
 use Rattle.cut_model.specs.Grafting.{AreResults, grafted}
@@ -30,3 +31,7 @@ CutsAreFaithful = (o : Options) (t : Tree) (weight : ℕ) → KeysAscend t → I
 -- It has at most 4,096 pieces.
 abbrev pub CutsAreFew : Type 0
 CutsAreFew = (o : Options) (t : Tree) (weight : ℕ) → 1 ≤ weight → length (cut o t weight) ≤ most_pieces
+
+-- The test is true exactly of legal plans.
+abbrev pub LegalPlansAreTold : Type 0
+LegalPlansAreTold = (plan : List Piece) → (is_legal plan ≡ true) ↔ IsLegal plan

@@ -4,7 +4,7 @@
 //! `cut_model`.
 #![tactic(auto)]
 
-ghost use Rattle.cut_laws.specs.Laws.{CutsAreFaithful, CutsAreFew, CutsAreLegal, GraftingIsExpansion, RightAnswersAreExpansion};
+ghost use Rattle.cut_laws.specs.Laws.{CutsAreFaithful, CutsAreFew, CutsAreLegal, GraftingIsExpansion, LegalPlansAreTold, RightAnswersAreExpansion};
 
 /// A document of which some ranges are taken from elsewhere comes to its expansion, the first error too, where what is taken for each
 /// range that expansion reaches is what expansion has for its items, with the context, property and flag that it has there. What is
@@ -24,8 +24,8 @@ pub fn cuts_are_legal()
     ensures { CutsAreLegal }
 {}
 
-/// The first pieces of a cut document are those that expansion reaches, in its order, with the items, contexts, properties and flags that it has there; all
-/// others come behind them.
+/// The first pieces of a cut document are those that expansion reaches, in its order, with the items, contexts, properties and flags
+/// that it has there; all others come behind them.
 pub fn cuts_are_faithful()
     ensures { CutsAreFaithful }
 {}
@@ -33,4 +33,9 @@ pub fn cuts_are_faithful()
 /// A document is cut into at most 4,096 pieces, whatever it weighs.
 pub fn cuts_are_few()
     ensures { CutsAreFew }
+{}
+
+/// Whether a plan is legal can be told by comparing any two of its pieces.
+pub fn legal_plans_are_told()
+    ensures { LegalPlansAreTold }
 {}

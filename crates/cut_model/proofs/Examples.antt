@@ -1,5 +1,5 @@
 -- Small documents with their plans, and what is reached of these, computed from the definitions. There is no base and no store.
-use Rattle.std.proofs.Common.{◌≡◌, ℕ, List, [], ◌∷◌, map, refl, Option, None, Some, Err, true}
+use Rattle.std.proofs.Common.{◌≡◌, ℕ, List, [], ◌∷◌, map, refl, Option, None, Some, Err, true, false}
 use Rattle.std.specs.Prelude.{codes, pos, is_ok}
 use Rattle.ld_json.specs.declared.location.Step.{Step}
 use Rattle.ld_json.specs.declared.location.Step.TheVariants.{Key, Item}
@@ -19,10 +19,11 @@ use Rattle.expand_model.specs.Keywords.{begun, keyword_entry, keyword_put, keywo
 use Rattle.expand_model.specs.Properties.{reverse_added, property_added, property_told}
 use Rattle.expand_model.specs.Indexes.{index_context, indexed, index_added}
 use Rattle.expand_model.specs.Finish.{finish_map}
-use Rattle.expand_model.specs.Rules.{scalar, spliced}
+use Rattle.expand_model.specs.Rules.{start, scalar, spliced}
 use Rattle.expand_model.specs.Expand.{entry, document}
 use Rattle.expand_model.specs.Over.{entry_over, node, document_over}
 use Rattle.cut_model.specs.Pieces.{Piece, count}
+use Rattle.cut_model.specs.LegalTest.{is_legal}
 use Rattle.cut_model.specs.Reached.{reached}
 use Rattle.cut_model.specs.Grafting.{grafted}
 use Rattle.cut_model.specs.Planning.{planned}
@@ -143,3 +144,19 @@ and_expansion_goes_on = refl
 and_has_no_error : is_ok (document options with_reverse) ≡ true
 unfolding document entry name_of task_of under entered in_map in_property contexts.processed is_left typed_by_entry begun keyword_entry keyword_put keyword_told keyword_added property_told property_added index_context indexed index_added scalar spliced expand_value value_object add_all finish_map put process processed item_taken map_taken terms_taken settings_taken create_new defined_by directed mapping_of id_mapping agreeing started completed finished expand_iri created prefix_created term_mapping without_colon reverse_created reverse_added
 and_has_no_error = refl
+
+-- Two items of the array at this place, from this number on.
+abbrev range_at : List Step → ℕ → Piece
+range_at p n = record { at = record { scope = (start options).scope; place = p }; from = n; items = trees_of (text (codes "x") ∷ text (codes "y") ∷ []) }
+
+neighbours_are_legal : is_legal (range_at [] 0 ∷ range_at [] 2 ∷ []) ≡ true
+neighbours_are_legal = refl
+
+ranges_that_overlap_are_not : is_legal (range_at [] 0 ∷ range_at [] 1 ∷ []) ≡ false
+ranges_that_overlap_are_not = refl
+
+a_range_inside_an_item_is_not : is_legal (range_at at_p 0 ∷ range_at [] 0 ∷ []) ≡ false
+a_range_inside_an_item_is_not = refl
+
+one_beside_the_items_is : is_legal (range_at at_p 0 ∷ range_at [] 1 ∷ []) ≡ true
+one_beside_the_items_is = refl

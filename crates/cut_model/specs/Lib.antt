@@ -1,5 +1,6 @@
 pub mod Pieces
 pub mod Legal
+pub mod LegalTest
 pub mod Reached
 pub mod Answers
 pub mod Grafting
