@@ -11,5 +11,6 @@ pub mod Beside
 pub mod Cut
 pub mod KeysApart
 pub mod Few
+pub mod Standing
 pub mod LegalTest
 mod Theorems

@@ -4,12 +4,13 @@ use Rattle.std.specs.Option.{option_map}
 use Rattle.range_laws.specs.Right.{keeps_each}
 use Rattle.cut_model.specs.Answers.{RangeAnswers, answered, asks_known}
 use Rattle.cut_model.specs.Grafting.{known_by}
-use Rattle.cut_laws.specs.Laws.{CutsAreFaithful, CutsAreFew, CutsAreLegal, GraftingIsExpansion, LegalPlansAreTold, RightAnswersAreExpansion}
+use Rattle.cut_laws.specs.Laws.{CutsAreFaithful, CutsAreFew, CutsAreLegal, GraftingIsExpansion, LegalPlansAreTold, PiecesStandInTheDocument, RightAnswersAreExpansion}
 use Rattle.cut_laws.proofs.KeysApart.{ascends_apart}
 use Rattle.cut_laws.proofs.RightAnswers.{IsOfRanges, answered_run}
 use Rattle.cut_laws.proofs.Results.{graft_run}
 use Rattle.cut_laws.proofs.Cut.{cut_is}
 use Rattle.cut_laws.proofs.Few.{cut_is_few}
+use Rattle.cut_laws.proofs.Standing.{cut_stands}
 use Rattle.cut_laws.proofs.LegalTest.{legal_from, legal_to}
 
 own_ranges : (known : RangeAnswers) → IsOfRanges known (answered known)
@@ -36,3 +37,6 @@ cuts_are_few o t weight some = cut_is_few o t weight some
 
 pub legal_plans_are_told : LegalPlansAreTold
 legal_plans_are_told plan = (legal_from plan, legal_to plan)
+
+pub pieces_stand_in_the_document : PiecesStandInTheDocument
+pieces_stand_in_the_document o t weight ascend = cut_stands o t (ascends_apart t ascend) weight

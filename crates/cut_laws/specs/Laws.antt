@@ -1,5 +1,6 @@
 -- The laws of cutting a document for expansion.
 use Rattle.std.specs.Prelude.{ℕ, ◌≡◌, ◌≤◌, ◌↔◌, true, List, length, Result}
+use Rattle.std.specs.List.{AllByRecursion}
 use Rattle.ld_model.specs.Tree.{Tree}
 use Rattle.expand_model.specs.Scope.{Options, Fault}
 use Rattle.expand_model.specs.Expand.{document}
@@ -10,6 +11,7 @@ use Rattle.cut_model.specs.Reached.{IsFaithful}
 use Rattle.cut_model.specs.Answers.{RangeAnswers, document_with, AreRightWhereReached}
 use Rattle.cut_model.specs.Grafting.{AreResults, grafted}
 use Rattle.cut_model.specs.Cutting.{most_pieces, cut}
+use Rattle.cut_model.specs.Standing.{StandsIn}
 use Rattle.cut_model.specs.KeysAscend.{KeysAscend}
 
 -- Where what is known of each range that expansion reaches is right, the document comes to its expansion, the first error too.
@@ -31,6 +33,10 @@ CutsAreFaithful = (o : Options) (t : Tree) (weight : ℕ) → KeysAscend t → I
 -- It has at most 4,096 pieces.
 abbrev pub CutsAreFew : Type 0
 CutsAreFew = (o : Options) (t : Tree) (weight : ℕ) → 1 ≤ weight → length (cut o t weight) ≤ most_pieces
+
+-- The items of each piece stand in the document, in the array at the piece's place, from the piece's number on.
+abbrev pub PiecesStandInTheDocument : Type 0
+PiecesStandInTheDocument = (o : Options) (t : Tree) (weight : ℕ) → KeysAscend t → AllByRecursion (λ x. StandsIn t x) (cut o t weight)
 
 -- The test is true exactly of legal plans.
 abbrev pub LegalPlansAreTold : Type 0

@@ -4,7 +4,7 @@
 //! `cut_model`.
 #![tactic(auto)]
 
-ghost use Rattle.cut_laws.specs.Laws.{CutsAreFaithful, CutsAreFew, CutsAreLegal, GraftingIsExpansion, LegalPlansAreTold, RightAnswersAreExpansion};
+ghost use Rattle.cut_laws.specs.Laws.{CutsAreFaithful, CutsAreFew, CutsAreLegal, GraftingIsExpansion, LegalPlansAreTold, PiecesStandInTheDocument, RightAnswersAreExpansion};
 
 /// A document of which some ranges are taken from elsewhere comes to its expansion, the first error too, where what is taken for each
 /// range that expansion reaches is what expansion has for its items, with the context, property and flag that it has there. What is
@@ -33,6 +33,12 @@ pub fn cuts_are_faithful()
 /// A document is cut into at most 4,096 pieces, whatever it weighs.
 pub fn cuts_are_few()
     ensures { CutsAreFew }
+{}
+
+/// The items of each piece of a cut document stand in that document: an array is at the piece's place, and they are in it, from the piece's
+/// number on. So a piece can be found again by its place and two numbers.
+pub fn pieces_stand_in_the_document()
+    ensures { PiecesStandInTheDocument }
 {}
 
 /// Whether a plan is legal can be told by comparing any two of its pieces.

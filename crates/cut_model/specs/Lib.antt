@@ -6,4 +6,5 @@ pub mod Answers
 pub mod Grafting
 pub mod Planning
 pub mod Cutting
+pub mod Standing
 pub mod KeysAscend
