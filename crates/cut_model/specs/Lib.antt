@@ -1,0 +1,10 @@
+pub mod Pieces
+pub mod Legal
+pub mod LegalTest
+pub mod Reached
+pub mod Answers
+pub mod Grafting
+pub mod Planning
+pub mod Cutting
+pub mod Standing
+pub mod KeysAscend
