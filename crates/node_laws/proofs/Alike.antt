@@ -72,7 +72,7 @@ module _ {S N E T M F : Type 0} (R : Likeness S N E T M F) (a : Steps S N E) (b 
   index_reach g h n m None s t graph id is = record { states = is; lasts = lasts_here R s }
 
   -- A node object, up to what stands in it.
-  entered_beside : (g : N) (h : M) (i : To N) (j : To M) (ms : Members) (s : S) (w : At S E) (v : At T F) → R.names s g h → Toward R s i j → Beside R s w v
+  pub entered_beside : (g : N) (h : M) (i : To N) (j : To M) (ms : Members) (s : S) (w : At S E) (v : At T F) → R.names s g h → Toward R s i j → Beside R s w v
       → Beside R s (entered a g i ms w).1 (entered b h j ms v).1 × R.names (entered a g i ms w).1.state (entered a g i ms w).0 (entered b h j ms v).0
   entered_beside g h i j ms s w v graph to is =
       -- the names of the types
@@ -106,7 +106,7 @@ module _ {S N E T M F : Type 0} (R : Likeness S N E T M F) (a : Steps S N E) (b 
       let told = reach_on R w3.state s4 _ t4 _ stated indexed in
       (beside_step R s w3 v3 _ _ (beside_from R s s2 w3 v3 made.lasts placed) told, told.lasts.names n m id3)
 
-  graph_beside : (n : N) (m : M) (ms : Members) (s : S) (w : At S E) (v : At T F) → R.names s n m → Beside R s w v → Beside R s (with_graph a n ms w) (with_graph b m ms v)
+  pub graph_beside : (n : N) (m : M) (ms : Members) (s : S) (w : At S E) (v : At T F) → R.names s n m → Beside R s w v → Beside R s (with_graph a n ms w) (with_graph b m ms v)
   graph_beside n m ms s w v id is = by_key (has_key graph_key ms)
     where
       by_key : (c : Bool) → Beside R s (record { state = if c then a.graph n w.state else w.state; items = w.items }) (record { state = if c then b.graph m v.state else v.state; items = v.items })
