@@ -10,8 +10,8 @@ use Rattle.op_model.specs.Names.{Name, iri, source, fresh, name_of}
 use Rattle.op_model.specs.Ops.{Entry, reference, list, entries_of, Op, use_label, ensure_graph, ensure_node, ensure_property, add_entry, append_list, add_type, set_index}
 use Rattle.op_model.specs.Noting.{Notes, note, noting, no_notes, top_range, ops_of}
 use Rattle.subtree_summary.specs.OnTheWay.{SoFar}
-use Rattle.chunk_sums.specs.Summing.{OnTheWay, told, summing, on_the_way, said_by, summed}
-use Rattle.chunk_sums.proofs.Told.{said_by-last, summed-note}
+use Rattle.chunk_sums.specs.Summing.{OnTheWay, told, summing, on_the_way, then_said, summed}
+use Rattle.chunk_sums.proofs.Told.{then_said-last, summed-note, nothing_yet}
 
 -- Member by member equal is equal.
 pairwise_same : {X : Type 0} (xs ys : List X) → Pairwise (λ (x y : X). x ≡ y) xs ys → xs ≡ ys
@@ -20,10 +20,10 @@ pairwise_same (x ∷ xs) (y ∷ ys) is = ap₂ (λ z zs. z ∷ zs) is.0 (pairwis
 pairwise_same [] (y ∷ ys) is = absurd is
 pairwise_same (x ∷ xs) [] is = absurd is
 
--- In the chunk with this number, of so many shards.
-module _ (chunk shards : ℕ) where
+-- In the chunk with this number, where this was said before.
+module _ (chunk : ℕ) (before : SoFar) where
   abbrev pub Stands : OnTheWay → Notes → Type 0
-  Stands s n = (s ≡ summed shards n) × (n.chunk ≡ chunk)
+  Stands s n = (s ≡ summed before n) × (n.chunk ≡ chunk)
 
   abbrev pub summed_alike : Likeness OnTheWay Name Entry Notes Name Entry
   summed_alike = record {
@@ -38,7 +38,7 @@ module _ (chunk shards : ℕ) where
 
   -- One and the same operation is told and noted.
   told_reach : (o p : Op) (s : OnTheWay) (n : Notes) → o ≡ p → Stands s n → Reach summed_alike s (told o s) (note p n)
-  told_reach o p s n same is = reach s (told o s) (note p n) (ap₂ told same is.0 ∙ sym (summed-note shards p n), is.1)
+  told_reach o p s n same is = reach s (told o s) (note p n) (ap₂ told same is.0 ∙ sym (summed-note before p n), is.1)
 
   named_alike : (x : List ℕ) (s : OnTheWay) (n : Notes) → Stands s n → Reach summed_alike s (summing.named x s).1 (noting.named x n).1
   named_alike x s n is = by_form (is_blank x)
@@ -52,7 +52,7 @@ module _ (chunk shards : ℕ) where
   node_alike g h (Some x) s n graph is = (told_reach (ensure_node g (name_of x)) (ensure_node h (name_of x)) s n (ap (λ a. ensure_node a (name_of x)) graph) is, refl)
   node_alike g h None s n graph is =
       let name = fresh n.chunk n.unnamed in
-      let said = sym (said_by-last n.chunk shards n.ops (ensure_node h name)) in (
+      let said = sym (then_said-last n.chunk before n.ops (ensure_node h name)) in (
         reach s (summing.node g None s).1 (noting.node h None n).1
             (ap₂ (λ a t. (summing.node a None t).1) graph is.0 ∙ (λ i. record { chunk = n.chunk; unnamed = n.unnamed + 1; so_far = said i }), is.1),
         ap (λ (t : OnTheWay). fresh t.chunk t.unnamed) is.0,
@@ -77,18 +77,18 @@ module _ (chunk shards : ℕ) where
   }
 
   -- A walk that tells what operations say comes to what the notes of a walk come to, and these are still of the chunk.
-  pub walks_alike : (g : Name) (t : Tree) → Stands (walk summing g nowhere t (record { state = on_the_way chunk shards; items = [] })).state (walk noting g nowhere t (record { state = no_notes chunk; items = [] })).state
+  pub walks_alike : (g : Name) (t : Tree) → Stands (walk summing g nowhere t (record { state = on_the_way chunk before; items = [] })).state (walk noting g nowhere t (record { state = no_notes chunk; items = [] })).state
   walks_alike g t =
-      (walk_beside summed_alike summing noting steps_alike g g nowhere nowhere t (on_the_way chunk shards) (record { state = on_the_way chunk shards; items = [] }) (record { state = no_notes chunk; items = [] }) refl tt
-      (record { states = (refl, refl); gathered = tt; lasts = lasts_here summed_alike (on_the_way chunk shards) })).states
+      (walk_beside summed_alike summing noting steps_alike g g nowhere nowhere t (on_the_way chunk before) (record { state = on_the_way chunk before; items = [] }) (record { state = no_notes chunk; items = [] }) refl tt
+      (record { states = (nothing_yet chunk before, refl); gathered = tt; lasts = lasts_here summed_alike (on_the_way chunk before) })).states
 
   -- What sums have been told once the items of the document's own array were gone through.
   pub said_of_items : (items : List Tree) (g : Name) (s r : OnTheWay) (t : SoFar)
-      → g ≡ iri default_graph → s ≡ on_the_way chunk shards → r ≡ (walk summing g nowhere (array (trees_of items)) (record { state = s; items = [] })).state → t ≡ r.so_far
-      → t ≡ said_by chunk shards (ops_of chunk (top_range items))
+      → g ≡ iri default_graph → s ≡ on_the_way chunk before → r ≡ (walk summing g nowhere (array (trees_of items)) (record { state = s; items = [] })).state → t ≡ r.so_far
+      → t ≡ then_said chunk before (ops_of chunk (top_range items))
   said_of_items items g s r t graph begun ended taken =
       let tree = array (trees_of items) in
       let both = walks_alike (iri default_graph) tree in
       taken
       ∙ ap (λ (u : OnTheWay). u.so_far) (ended ∙ ap₂ (λ a b. (walk summing a nowhere tree (record { state = b; items = [] })).state) graph begun ∙ both.0)
-      ∙ ap (λ c. said_by c shards (ops_of chunk (top_range items))) both.1
+      ∙ ap (λ c. then_said c before (ops_of chunk (top_range items))) both.1

@@ -3,15 +3,15 @@ use Rattle.std.proofs.Common.{◌≡◌, ℕ, ◌+◌, List, [], ◌∷◌, ◌+
 use Rattle.std.proofs.lemmas.List.{append-nil, append_assoc, length-append}
 use Rattle.std.proofs.lemmas.List.Elements.{filter-append}
 use Rattle.op_model.specs.Ops.{Op}
-use Rattle.op_model.specs.Noting.{Notes, note}
+use Rattle.op_model.specs.Noting.{Notes, note, no_notes}
 use Rattle.op_model.specs.Running.{used, uses, uses_of_all}
 use Rattle.sum_model.specs.Shards.{in_shard, falls_in, ops_in}
 use Rattle.sum_model.specs.Sums.{Place, empty_sum, join, placed_from, placed, sum, sum_of_one}
 use Rattle.sum_laws.proofs.Sums.{join_is_a_monoid, the_sum_of_both_is_the_join}
-use Rattle.subtree_summary.specs.OnTheWay.{tell}
+use Rattle.subtree_summary.specs.OnTheWay.{SoFar, nothing_said, tell}
 use Rattle.subtree_summary.specs.Summing.{one_in}
 use Rattle.subtree_summary.proofs.Used.{used-append}
-use Rattle.chunk_sums.specs.Summing.{told, said_by, summed}
+use Rattle.chunk_sums.specs.Summing.{told, on_the_way, then_said, summed}
 
 uses-last : (os : List Op) (o : Op) → uses_of_all (os ++ o ∷ []) ≡ uses_of_all os ++ uses o
 uses-last [] o = append-nil (uses o)
@@ -45,14 +45,28 @@ said-last chunk shards k os o =
     ∙ the_sum_of_both_is_the_join before (ops_in here last)
     ∙ ap (join (sum before)) (one_said shards k (record { chunk = chunk; number = length os }) o)
 
-pub said_by-last : (chunk shards : ℕ) (os : List Op) (o : Op) → said_by chunk shards (os ++ o ∷ []) ≡ tell o (said_by chunk shards os)
-said_by-last chunk shards os o i = record {
+pub then_said-last : (chunk : ℕ) (s : SoFar) (os : List Op) (o : Op) → then_said chunk s (os ++ o ∷ []) ≡ tell o (then_said chunk s os)
+then_said-last chunk s os o i = record {
   chunk = chunk;
   count = length-append os (o ∷ []) i;
-  shards = shards;
-  said = λ k. said-last chunk shards k os o i;
-  names = (ap (used []) (uses-last os o) ∙ used-append [] (uses_of_all os) (uses o)) i;
+  shards = s.shards;
+  said = λ k.
+      (ap (join (s.said k)) (said-last chunk s.shards k os o)
+      ∙ sym (join_is_a_monoid.assoc (s.said k) (sum (ops_in (in_shard s.shards k) (placed chunk os))) (one_in s.shards k (record { chunk = chunk; number = length os }) o))) i;
+  names = (ap (used s.names) (uses-last os o) ∙ used-append s.names (uses_of_all os) (uses o)) i;
 }
 
-pub summed-note : (shards : ℕ) (o : Op) (n : Notes) → summed shards (note o n) ≡ told o (summed shards n)
-summed-note shards o n i = record { chunk = n.chunk; unnamed = n.unnamed; so_far = said_by-last n.chunk shards n.ops o i }
+pub summed-note : (s : SoFar) (o : Op) (n : Notes) → summed s (note o n) ≡ told o (summed s n)
+summed-note s o n i = record { chunk = n.chunk; unnamed = n.unnamed; so_far = then_said-last n.chunk s n.ops o i }
+
+-- Before the first operation of a chunk.
+pub nothing_yet : (chunk : ℕ) (s : SoFar) → on_the_way chunk s ≡ summed s (no_notes chunk)
+nothing_yet chunk s i = record {
+  chunk = chunk;
+  unnamed = 0;
+  so_far = record { chunk = chunk; count = 0; shards = s.shards; said = λ k. sym (join_is_a_monoid.right (s.said k)) i; names = s.names };
+}
+
+-- Where nothing was said before.
+pub from_nothing : (chunk shards : ℕ) (os : List Op) (k : ℕ) → (then_said chunk (nothing_said chunk shards) os).said k ≡ sum (ops_in (in_shard shards k) (placed chunk os))
+from_nothing chunk shards os k = join_is_a_monoid.left (sum (ops_in (in_shard shards k) (placed chunk os)))

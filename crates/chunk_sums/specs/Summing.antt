@@ -1,6 +1,6 @@
 -- What the operations of a chunk say, made on the way through it: node map generation's traversal (JSON-LD 1.1 API, section 7.2), with
 -- steps that tell at once what those of `op_model` note as an operation.
-use Rattle.std.specs.Prelude.{ℕ, ◌+◌, List, [], length, if◌then◌else◌, Option, Some, None}
+use Rattle.std.specs.Prelude.{ℕ, ◌+◌, List, length, if◌then◌else◌, Option, Some, None}
 use Rattle.ld_model.specs.Label.{is_blank}
 use Rattle.node_model.specs.Walk.{Steps}
 use Rattle.op_model.specs.Names.{Name, source, fresh, name_of}
@@ -8,8 +8,8 @@ use Rattle.op_model.specs.Ops.{Entry, value, reference, list, entries_of, Op, us
 use Rattle.op_model.specs.Noting.{Notes}
 use Rattle.op_model.specs.Running.{used, uses_of_all}
 use Rattle.sum_model.specs.Shards.{in_shard, ops_in}
-use Rattle.sum_model.specs.Sums.{placed, sum}
-use Rattle.subtree_summary.specs.OnTheWay.{SoFar, nothing_said, tell}
+use Rattle.sum_model.specs.Sums.{placed, sum, join}
+use Rattle.subtree_summary.specs.OnTheWay.{SoFar, turned_to, tell}
 
 -- The number of the chunk, how many nodes without an id it has had so far, and what was said so far.
 pub record OnTheWay : Type 0 where
@@ -42,20 +42,20 @@ summing = record {
   index = λ g id i. told (set_index g id i);
 }
 
--- Before the first step of the chunk with this number, of so many shards.
-abbrev pub on_the_way : ℕ → ℕ → OnTheWay
-on_the_way chunk shards = record { chunk = chunk; unnamed = 0; so_far = nothing_said chunk shards }
+-- Before the first step of the chunk with this number, where this was said before.
+abbrev pub on_the_way : ℕ → SoFar → OnTheWay
+on_the_way chunk s = record { chunk = chunk; unnamed = 0; so_far = turned_to chunk s }
 
--- What the operations of a chunk say, in each of so many shards.
-abbrev pub said_by : ℕ → ℕ → List Op → SoFar
-said_by chunk shards os = record {
+-- What was said before, and then by the operations of a chunk.
+abbrev pub then_said : ℕ → SoFar → List Op → SoFar
+then_said chunk s os = record {
   chunk = chunk;
   count = length os;
-  shards = shards;
-  said = λ k. sum (ops_in (in_shard shards k) (placed chunk os));
-  names = used [] (uses_of_all os);
+  shards = s.shards;
+  said = λ k. join (s.said k) (sum (ops_in (in_shard s.shards k) (placed chunk os)));
+  names = used s.names (uses_of_all os);
 }
 
--- What notes come to.
-abbrev pub summed : ℕ → Notes → OnTheWay
-summed shards n = record { chunk = n.chunk; unnamed = n.unnamed; so_far = said_by n.chunk shards n.ops }
+-- What was said before, and then what notes come to.
+abbrev pub summed : SoFar → Notes → OnTheWay
+summed s n = record { chunk = n.chunk; unnamed = n.unnamed; so_far = then_said n.chunk s n.ops }

@@ -8,7 +8,7 @@ ghost use Rattle.op_types.specs.View.{name_view};
 ghost use Rattle.subtree_summary.specs.OnTheWay.{sums_view};
 ghost use Rattle.subtree_summary.specs.Parts.{ArePartsOf};
 ghost use Rattle.subtree_summary.specs.Uses.{uses_view};
-ghost use Rattle.chunk_sums.specs.Summing.{on_the_way};
+ghost use Rattle.chunk_sums.specs.Summing.{on_the_way, then_said};
 ghost use Rattle.chunk_sums.specs.Views.{summing_view};
 
 use ld_tree::{Text, Tree, Trees};
@@ -49,23 +49,41 @@ pub fn summarise_items(
     ensures parts { IfOk result (λ s. ArePartsOf shards (placed chunk (ops_of chunk (top_range items))) s.parts.items) }
     ensures uses { IfOk result (λ s. uses_view s.uses ≡ used [] (uses_of_all (ops_of chunk (top_range items)))) }
 {
+    let before = Sums::new(alloc, chunk, shards, hasher)?;
+    let sums = sum_items(alloc, before, items, chunk)?;
+    Ok(sums.into_summary())
+}
+
+/// What was said before, and then by the chunk with this number, of items of the document's own array (JSON-LD 1.1 API, section 7.2). So chunks are
+/// summed one after another with no sum for each, and what a later one says of a node is put behind what the earlier ones said as it comes. The
+/// items are taken apart.
+///
+/// It takes a time linear in the size of the items, as long as few of the names collide under the key of the hasher.
+///
+/// # Errors
+///
+/// `AllocError` where memory is refused, or where there are more nodes without an id, or more steps, than a `u64` can count.
+pub fn sum_items(alloc: Global, before: Sums, items: Trees, chunk: u32) -> Result<Sums, AllocError>
+    ensures { IfOk result (λ s. sums_view s ≡ then_said chunk (sums_view before) (ops_of chunk (top_range items))) }
+{
     let graph = Name::default_graph(alloc)?;
-    let mut summing = Summing::new(alloc, chunk, shards, hasher)?;
+    let mut summing = Summing::after(before, chunk);
     walk_document(alloc, &mut summing, &graph, items)?;
-    Ok(summing.into_sums().into_summary())
+    Ok(summing.into_sums())
 }
 
 impl Summing {
-    /// Before the first step of the chunk with this number, in so many shards.
-    fn new(alloc: Global, chunk: u32, shards: u32, hasher: Keyed) -> Result<Summing, AllocError>
-        requires { (1 ≤ shards) × (shards ≤ 64) }
-        ensures { IfOk result (λ s. summing_view s ≡ on_the_way chunk shards) }
+    /// Before the first step of the chunk with this number, where this was said before.
+    fn after(before: Sums, chunk: u32) -> Summing
+        ensures { summing_view result ≡ on_the_way chunk (sums_view before) }
     {
-        Ok(Summing {
+        let mut sums = before;
+        sums.turn_to(chunk);
+        Summing {
             chunk,
             unnamed: 0,
-            sums: Sums::new(alloc, chunk, shards, hasher)?,
-        })
+            sums,
+        }
     }
 
     fn into_sums(self) -> Sums

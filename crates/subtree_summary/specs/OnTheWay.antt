@@ -21,6 +21,10 @@ pub record SoFar : Type 0 where
 abbrev pub nothing_said : ℕ → ℕ → SoFar
 nothing_said chunk shards = record { chunk = chunk; count = 0; shards = shards; said = λ k. empty_sum; names = [] }
 
+-- Once another chunk has begun, of which nothing was said yet.
+abbrev pub turned_to : ℕ → SoFar → SoFar
+turned_to chunk s = record { chunk = chunk; count = 0; shards = s.shards; said = s.said; names = s.names }
+
 -- Once a further operation has said what it says.
 abbrev pub tell : Op → SoFar → SoFar
 tell o s = record {

@@ -4,7 +4,7 @@ ghost use Rattle.op_model.specs.Ops.{entries_of, use_label, ensure_graph, ensure
 ghost use Rattle.op_model.specs.Running.{used, uses_of_all};
 ghost use Rattle.sum_model.specs.Sums.{placed};
 ghost use Rattle.op_types.specs.View.{name_view, entry_view, op_view};
-ghost use Rattle.subtree_summary.specs.OnTheWay.{nothing_said, tell, sums_view};
+ghost use Rattle.subtree_summary.specs.OnTheWay.{nothing_said, turned_to, tell, sums_view};
 ghost use Rattle.subtree_summary.specs.Parts.{part_view, ArePartsOf};
 ghost use Rattle.subtree_summary.specs.Uses.{uses_view};
 
@@ -35,7 +35,7 @@ pub struct Summary {
 pub struct Sums {
     /// The number of the chunk.
     chunk: u32,
-    /// How many operations there were.
+    /// How many of its operations there were so far.
     number: u64,
     /// What they said in each shard.
     sharded: Sharded,
@@ -98,6 +98,14 @@ impl Sums {
             sharded: Sharded::new(alloc, shards, hasher)?,
             uses: LabelUses::new(alloc, hasher),
         })
+    }
+
+    /// Turns to the chunk with this number, whose operations are told from here on. What was said before stays.
+    pub fn turn_to(&mut self, chunk: u32)
+        ensures { sums_view self.new ≡ turned_to chunk (sums_view self.old) }
+    {
+        self.chunk = chunk;
+        self.number = 0;
     }
 
     /// Notes that a label of the document is needed: that of a type, or of a reverse property.

@@ -1,5 +1,5 @@
 // Runs.
-ghost use Rattle.std.specs.Prelude.{◌≡◌, ◌+◌, ◌<◌, IfOk};
+ghost use Rattle.std.specs.Prelude.{◌≡◌, ◌+◌, ◌<◌, ◌≤◌, IfOk};
 ghost use Rattle.sum_model.specs.Sums.{empty_sum};
 ghost use Rattle.subtree_summary.specs.Parts.{part_view};
 ghost use Rattle.summary_merge.specs.Runs.{AreNeighbours, runs_joined, all_joined};
@@ -42,6 +42,14 @@ impl Run {
             end: chunk + 1,
             part,
         }
+    }
+
+    /// The run of the chunks from this one to before that one, whose operations say this in the shard.
+    pub fn over(part: Part, start: u32, end: u32) -> Run
+        requires { start ≤ end }
+        ensures { result ≡ record { first = start; end = end; sum = part_view part } }
+    {
+        Run { start, end, part }
     }
 
     /// The run of no chunk, at this one. What is merged into it is hashed by this hasher.

@@ -1,23 +1,25 @@
-use Rattle.std.proofs.Common.{◌≡◌, ℕ, length, slice_get, ap, ◌∙◌, subst}
-use Rattle.std.specs.Prelude.{IfSome}
-use Rattle.op_types.specs.View.{name_view}
-use Rattle.subtree_summary.specs.OnTheWay.{SoFar, sums_view}
-use Rattle.subtree_summary.specs.Parts.{part_view}
-use Rattle.chunk_sums.specs.Views.{summing_view}
-use Rattle.chunk_sums.proofs.Beside.{said_of_items}
+use Rattle.std.proofs.Common.{◌≡◌, slice_get, ap, ◌∙◌}
+use Rattle.op_model.specs.Noting.{ops_of, top_range}
+use Rattle.sum_model.specs.Shards.{in_shard, ops_in}
+use Rattle.sum_model.specs.Sums.{placed, sum}
+use Rattle.subtree_summary.specs.OnTheWay.{SoFar, nothing_said, sums_view}
+use Rattle.subtree_summary.proofs.Joining.{seen_as}
+use Rattle.chunk_sums.specs.Summing.{then_said}
+use Rattle.chunk_sums.proofs.Told.{from_nothing}
 use Rattle.chunk_sums.proofs.summing.summarise_items.Goals as goal
 
 pub returns-clause-parts : goal.returns-clause-parts
 returns-clause-parts c =
-    let said =
-    said_of_items c.args.chunk c.args.shards c.args.items (name_view c.in_ok-graph.graph) (summing_view c.in_ok-summing.summing) (summing_view c.walk_document.new.map) (sums_view c.into_sums.result)
-    c.in_ok-graph.ensures c.in_ok-summing.ensures c.in_ok-walk_document.ensures c.into_sums.ensures in
-    let parts = c.into_summary.result.parts.items in
-    subst (λ (s : SoFar). (length parts ≡ s.shards) × ((k : ℕ) → IfSome (slice_get parts k) (λ p. part_view p ≡ s.said k))) said c.into_summary.ensures.parts
+    let os = ops_of c.args.chunk (top_range c.args.items) in
+    let begun = ap (λ (s : SoFar). then_said c.args.chunk s os) c.in_ok-before.ensures in
+    let ends : sums_view c.in_ok-sums.sums ≡ then_said c.args.chunk (nothing_said c.args.chunk c.args.shards) os = c.in_ok-sums.ensures ∙ begun in
+    let parts = c.into_summary.ensures.parts in (
+      parts.0 ∙ ap (λ (s : SoFar). s.shards) ends,
+      λ k. seen_as (slice_get c.into_summary.result.parts.items k) ((sums_view c.in_ok-sums.sums).said k) (sum (ops_in (in_shard c.args.shards k) (placed c.args.chunk os)))
+          (ap (λ (s : SoFar). s.said k) ends ∙ from_nothing c.args.chunk c.args.shards os k) (parts.1 k),
+    )
 
 pub returns-clause-uses : goal.returns-clause-uses
 returns-clause-uses c =
-    let said =
-    said_of_items c.args.chunk c.args.shards c.args.items (name_view c.in_ok-graph.graph) (summing_view c.in_ok-summing.summing) (summing_view c.walk_document.new.map) (sums_view c.into_sums.result)
-    c.in_ok-graph.ensures c.in_ok-summing.ensures c.in_ok-walk_document.ensures c.into_sums.ensures in
-    c.into_summary.ensures.uses ∙ ap (λ (s : SoFar). s.names) said
+    let os = ops_of c.args.chunk (top_range c.args.items) in
+    c.into_summary.ensures.uses ∙ ap (λ (s : SoFar). s.names) (c.in_ok-sums.ensures ∙ ap (λ (s : SoFar). then_said c.args.chunk s os) c.in_ok-before.ensures)
