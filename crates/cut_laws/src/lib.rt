@@ -4,7 +4,7 @@
 //! `cut_model`.
 #![tactic(auto)]
 
-ghost use Rattle.cut_laws.specs.Laws.{CutsAreFaithful, CutsAreFew, CutsAreLegal, GraftingIsExpansion, LegalPlansAreTold, PiecesStandInTheDocument, RightAnswersAreExpansion};
+ghost use Rattle.cut_laws.specs.Laws.{ALightDocumentIsNotCut, CutsAreFaithful, CutsAreFew, CutsAreLegal, GraftingIsExpansion, LegalPlansAreTold, PiecesStandInTheDocument, RightAnswersAreExpansion};
 
 /// A document of which some ranges are taken from elsewhere comes to its expansion, the first error too, where what is taken for each
 /// range that expansion reaches is what expansion has for its items, with the context, property and flag that it has there. What is
@@ -33,6 +33,11 @@ pub fn cuts_are_faithful()
 /// A document is cut into at most 4,096 pieces, whatever it weighs.
 pub fn cuts_are_few()
     ensures { CutsAreFew }
+{}
+
+/// A document that weighs no more than the weight by which it is cut has no pieces: it is expanded in one go.
+pub fn a_light_document_is_not_cut()
+    ensures { ALightDocumentIsNotCut }
 {}
 
 /// The items of each piece of a cut document stand in that document: an array is at the piece's place, and they are in it, from the piece's
