@@ -11,9 +11,10 @@ use Rattle.cut_model.specs.Planning.{capped, is_light, passes_array, heavy_choic
 use Rattle.cut_model.specs.Cutting.{cut_within, cut}
 use Rattle.cut_laws.proofs.Regions.{Region}
 use Rattle.cut_laws.proofs.TwoRuns.{Rules, document_both}
-use Rattle.cut_laws.proofs.RightAnswers.{Any₂}
-use Rattle.cut_laws.proofs.LastReached.{Whatever}
+use Rattle.cut_laws.proofs.RightAnswers.{AnyRegions}
+use Rattle.cut_laws.proofs.LastReached.{AnyValues}
 
+-- The highest limit.
 abbrev cap : ℕ
 cap = 2 ^ 64 - 1
 
@@ -70,7 +71,7 @@ module _ (o : Options) (limit : ℕ) where
       ap (λ b. state_of (given (element_over o chooses opens_or_takes t (item_at 0 a)) (opens_or_takes (tree t ts) 0 a) (lists_at a) [] (chosen (if b then passes_array (count ts) else heavy_choice s.limit t ts) (tree t ts) 0 a s).answer (chosen (if b then passes_array (count ts) else heavy_choice s.limit t ts) (tree t ts) 0 a s).state >>= rest_plan ts a >>= plan_array)) (ap (λ m. is_light m (weight (array (tree t ts)))) h ∙ known)
       ∙ ap (λ m. state_of (m >>= plan_array)) (skip_all ts (count ts) 1 a [] s refl)
 
-  still_rules : Rules o chooses opens_or_takes chooses opens_or_takes Whatever Any₂ Still (λ ts n a. Unit {0}) IsLight AreLight HasLightValues
+  still_rules : Rules o chooses opens_or_takes chooses opens_or_takes AnyValues AnyRegions Still (λ ts n a. Unit {0}) IsLight AreLight HasLightValues
   still_rules = record {
     same = λ X x. tt;
     weaken = λ X Q Q′ s l m m′ h p. record { by = p.by };
@@ -93,7 +94,7 @@ module _ (o : Options) (limit : ℕ) where
   }
 
   planned_none : (t : Tree) → IsLight [] t → planned o limit t ≡ []
-  planned_none t light = ap (λ z. z.pieces) ((document_both o chooses opens_or_takes chooses opens_or_takes Whatever Any₂ Still (λ ts n a. Unit {0}) IsLight AreLight HasLightValues still_rules t light (empty_plan limit) (empty_plan limit)).by refl)
+  planned_none t light = ap (λ z. z.pieces) ((document_both o chooses opens_or_takes chooses opens_or_takes AnyValues AnyRegions Still (λ ts n a. Unit {0}) IsLight AreLight HasLightValues still_rules t light (empty_plan limit) (empty_plan limit)).by refl)
 
   within_none : (n : ℕ) (t : Tree) → IsLight [] t → cut_within n o t limit ≡ []
   unfolding cut_within
