@@ -20,7 +20,7 @@ use Rattle.cut_laws.proofs.Regions.{Region, Cone, Nothing, Either, Every, Is, La
 use Rattle.cut_laws.proofs.Places.{begins_itself}
 use Rattle.cut_laws.proofs.PiecesInRegions.{IsIn, ranges_none, ranges_left, ranges_right, Apart, closed_apart, legal_append, count_first, count_all, KeysApart, AllApart, EachApart}
 use Rattle.cut_laws.proofs.TwoRuns.{Rules, only_left, document_both}
-use Rattle.cut_laws.proofs.LastReached.{Whatever}
+use Rattle.cut_laws.proofs.LastReached.{AnyValues}
 use Rattle.cut_laws.proofs.Unreached.{Silent, put_one, no_more, element_quiet, items_quiet}
 
 cones_apart : (p : List Step) (A B : Step → Type 0) → ((x : Step) → A x → B x → ⊥) → Apart (Cone p A) (Cone p B)
@@ -375,7 +375,7 @@ module _ (o : Options) (ranges : Ranges) where
           (λ silent. element_quiet o ranges (array (tree t ts)) a l silent)
       by false h = walked (tree t ts) a s l p (subst (λ b. Sound ts (if b then passes_array (count ts) else heavy_choice s.limit t ts)) (sym h) (heavy_sound s.limit t ts))
 
-  beside_rules : Rules o chooses opens_or_takes (notes_ranges o ranges) keeps_each Whatever Apart Beside Items (λ p t. KeysApart t) (λ p n ts. AllApart ts) (λ p ms. EachApart ms)
+  beside_rules : Rules o chooses opens_or_takes (notes_ranges o ranges) keeps_each AnyValues Apart Beside Items (λ p t. KeysApart t) (λ p n ts. AllApart ts) (λ p ms. EachApart ms)
   beside_rules = record {
     same = λ X x. tt;
     weaken = weaken;
@@ -398,4 +398,4 @@ module _ (o : Options) (ranges : Ranges) where
   }
 
   pub beside_document : (t : Tree) → KeysApart t → (s : Plan) (l : List Piece) → Beside (List Tree) (Cone [] Every) s l (document_over o chooses opens_or_takes t s) (document_over o (notes_ranges o ranges) keeps_each t l)
-  beside_document t apart s l = document_both o chooses opens_or_takes (notes_ranges o ranges) keeps_each Whatever Apart Beside Items (λ p t. KeysApart t) (λ p n ts. AllApart ts) (λ p ms. EachApart ms) beside_rules t apart s l
+  beside_document t apart s l = document_both o chooses opens_or_takes (notes_ranges o ranges) keeps_each AnyValues Apart Beside Items (λ p t. KeysApart t) (λ p n ts. AllApart ts) (λ p ms. EachApart ms) beside_rules t apart s l

@@ -11,14 +11,16 @@ use Rattle.cut_model.specs.Pieces.{Piece, Ranges}
 use Rattle.cut_model.specs.Reached.{right_answer, noted, notes_ranges, reached_of}
 use Rattle.cut_laws.proofs.Regions.{Region}
 use Rattle.cut_laws.proofs.TwoRuns.{Rules, document_both}
-use Rattle.cut_laws.proofs.RightAnswers.{Any₂}
+use Rattle.cut_laws.proofs.RightAnswers.{AnyRegions}
 
+-- No error.
 abbrev pub GoesOn : Result (List Tree) Fault → Type 0
 GoesOn (Ok ts) = Unit {0}
 GoesOn (Err f) = ⊥
 
-abbrev pub Whatever : (X : Type 0) → X → X → Type 0
-Whatever X x y = Unit {0}
+-- Two runs of whose values nothing is asked.
+abbrev pub AnyValues : (X : Type 0) → X → X → Type 0
+AnyValues X x y = Unit {0}
 
 all_more : {X : Type 0} (P : X → Type 0) (xs : List X) (x : X) → AllByRecursion P xs → P x → AllByRecursion P (xs ++ x ∷ [])
 all_more P [] x h p = (p, tt)
@@ -99,7 +101,7 @@ module _ (o : Options) (ranges : Ranges) where
   abbrev as_array : List Tree × List Piece → Outcome (List Piece) Tree
   as_array v = Ok (array (trees_of v.0), v.1)
 
-  ends_rules : Rules o (notes_ranges o ranges) keeps_each (notes_ranges o ranges) keeps_each Whatever Any₂ Ends Items (λ p t. Unit {0}) (λ p n ts. Unit {0}) (λ p ms. Unit {0})
+  ends_rules : Rules o (notes_ranges o ranges) keeps_each (notes_ranges o ranges) keeps_each AnyValues AnyRegions Ends Items (λ p t. Unit {0}) (λ p n ts. Unit {0}) (λ p ms. Unit {0})
   ends_rules = record {
     same = λ X x. tt;
     weaken = λ X Q Q′ s l m m′ h p. record { by = p.by };
@@ -129,4 +131,4 @@ module _ (o : Options) (ranges : Ranges) where
   after_end (Err e) h = h
 
   pub reached_ends : (t : Tree) → AllButLast o (reached_of o ranges t)
-  reached_ends t = after_end (document_over o (notes_ranges o ranges) keeps_each t []) ((document_both o (notes_ranges o ranges) keeps_each (notes_ranges o ranges) keeps_each Whatever Any₂ Ends Items (λ p t. Unit {0}) (λ p n ts. Unit {0}) (λ p ms. Unit {0}) ends_rules t tt [] []).by tt)
+  reached_ends t = after_end (document_over o (notes_ranges o ranges) keeps_each t []) ((document_both o (notes_ranges o ranges) keeps_each (notes_ranges o ranges) keeps_each AnyValues AnyRegions Ends Items (λ p t. Unit {0}) (λ p n ts. Unit {0}) (λ p ms. Unit {0}) ends_rules t tt [] []).by tt)

@@ -33,11 +33,12 @@ is_ok (Err f) = ⊥
 some_value : {X : Type 0} (x y : X) → Some x ≡ Some y → x ≡ y
 some_value x y p = ap (some_or x) p
 
+-- Two runs whose values are equal; regions of which nothing is asked.
 abbrev pub Equal : (X : Type 0) → X → X → Type 0
 Equal X x y = x ≡ y
 
-abbrev pub Any₂ : Region → Region → Type 0
-Any₂ Q R = Unit {0}
+abbrev pub AnyRegions : Region → Region → Type 0
+AnyRegions Q R = Unit {0}
 
 -- What is known is right for each of these ranges that expansion reaches.
 abbrev pub AnswersReached : Options → RangeAnswers → Ranges → Tree → Type 0
@@ -146,7 +147,7 @@ module _ (o : Options) {S : Type 0} (ask : Trees → ℕ → At → S → Asked 
         same_bind (List Tree × ℕ) (List Tree) (λ _. Unit {0}) (λ _. Unit {0}) s l _ _ _ _ (same_turn (tree t ts) n a (element_over o ask settle t (item_at n a)) (element_over o (notes_ranges o ranges) keeps_each t (item_at n a)) (settle (tree t ts) n a) (keeps_each (tree t ts) n a) k out s l p)
         (λ x x′ e s l. subst (λ z. Same (List Tree) (λ _. Unit {0}) s l (items_over o ask settle ts x.1 (suc n) a x.0 s) (items_over o (notes_ranges o ranges) keeps_each ts z.1 (suc n) a z.0 l)) e (q x.1 x.0 s l))
 
-    same_rules : Rules o ask settle (notes_ranges o ranges) keeps_each Equal Any₂ Same Items (λ p t. Unit {0}) (λ p n ts. Unit {0}) (λ p ms. Unit {0})
+    same_rules : Rules o ask settle (notes_ranges o ranges) keeps_each Equal AnyRegions Same Items (λ p t. Unit {0}) (λ p n ts. Unit {0}) (λ p ms. Unit {0})
     same_rules = record {
       same = λ X x. refl;
       weaken = λ X Q Q′ s l m m′ h p. record { before = p.before; by = p.by };
@@ -172,9 +173,9 @@ module _ (o : Options) {S : Type 0} (ask : Trees → ℕ → At → S → Asked 
     right_is ts n a None = tt
     right_is ts n a (Some more) = refl
 
-    -- A run whose answers are an oracle's, whatever state it has of a kind that it keeps, is expansion, its first error too, where the
-    -- answers are right for each range that expansion reaches.
+    -- A run that answers by what is known of ranges is expansion, its first error too, where that is right for each range which expansion
+    -- reaches; whatever its state is, of a kind that it keeps.
     pub answered_run : (t : Tree) (s : S) → P s → AnswersReached o f ranges t → outcome (document_over o ask settle t s) ≡ document o t
     answered_run t s p agree =
-        ((document_both o ask settle (notes_ranges o ranges) keeps_each Equal Any₂ Same Items (λ p t. Unit {0}) (λ p n ts. Unit {0}) (λ p ms. Unit {0}) same_rules t tt s []).by p agree).0
+        ((document_both o ask settle (notes_ranges o ranges) keeps_each Equal AnyRegions Same Items (λ p t. Unit {0}) (λ p n ts. Unit {0}) (λ p ms. Unit {0}) same_rules t tt s []).by p agree).0
         ∙ document_run o (notes_ranges o ranges) keeps_each (λ ts n a l. right_is ts n a (ranges a.place n)) t []

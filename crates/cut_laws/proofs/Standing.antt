@@ -22,8 +22,8 @@ use Rattle.cut_laws.proofs.Lists.{all_append}
 use Rattle.cut_laws.proofs.Regions.{Region, NotIn}
 use Rattle.cut_laws.proofs.PiecesInRegions.{KeysApart, AllApart, EachApart}
 use Rattle.cut_laws.proofs.TwoRuns.{Rules, document_both}
-use Rattle.cut_laws.proofs.RightAnswers.{Any₂}
-use Rattle.cut_laws.proofs.LastReached.{Whatever}
+use Rattle.cut_laws.proofs.RightAnswers.{AnyRegions}
+use Rattle.cut_laws.proofs.LastReached.{AnyValues}
 use Rattle.cut_laws.proofs.Unreached.{put_one, no_more}
 
 -- One step more.
@@ -179,7 +179,7 @@ module _ (o : Options) (doc : Tree) where
   abbrev as_array : List Tree × Plan → Outcome Plan Tree
   as_array v = Ok (array (trees_of v.0), v.1)
 
-  stand_rules : Rules o chooses opens_or_takes chooses opens_or_takes Whatever Any₂ Stand Items IsAt AreAt ValuesAt
+  stand_rules : Rules o chooses opens_or_takes chooses opens_or_takes AnyValues AnyRegions Stand Items IsAt AreAt ValuesAt
   stand_rules = record {
     same = λ X x. tt;
     weaken = λ X Q Q′ s l m m′ h p. record { by = p.by };
@@ -203,7 +203,7 @@ module _ (o : Options) (doc : Tree) where
 
   module _ (apart : KeysApart doc) where
     planned_stands : (limit : ℕ) → AllStand (planned o limit doc)
-    planned_stands limit = (document_both o chooses opens_or_takes chooses opens_or_takes Whatever Any₂ Stand Items IsAt AreAt ValuesAt stand_rules doc (record { at = refl; apart = apart }) (empty_plan limit) (empty_plan limit)).by tt
+    planned_stands limit = (document_both o chooses opens_or_takes chooses opens_or_takes AnyValues AnyRegions Stand Items IsAt AreAt ValuesAt stand_rules doc (record { at = refl; apart = apart }) (empty_plan limit) (empty_plan limit)).by tt
 
     within_stands : (n limit : ℕ) → AllStand (cut_within n o doc limit)
     unfolding cut_within

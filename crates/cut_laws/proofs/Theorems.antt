@@ -4,12 +4,12 @@ use Rattle.std.specs.Option.{option_map}
 use Rattle.range_laws.specs.Right.{keeps_each}
 use Rattle.cut_model.specs.Answers.{RangeAnswers, answered, asks_known}
 use Rattle.cut_model.specs.Grafting.{known_by}
-use Rattle.cut_laws.specs.Laws.{CutsAreFaithful, CutsAreFew, CutsAreLegal, GraftingIsExpansion, LegalPlansAreTold, PiecesStandInTheDocument, RightAnswersAreExpansion}
+use Rattle.cut_laws.specs.Laws.{ALightDocumentIsNotCut, CutsAreFaithful, CutsAreFew, CutsAreLegal, GraftingIsExpansion, LegalPlansAreTold, PiecesStandInTheDocument, RightAnswersAreExpansion}
 use Rattle.cut_laws.proofs.KeysApart.{ascends_apart}
 use Rattle.cut_laws.proofs.RightAnswers.{IsOfRanges, answered_run}
 use Rattle.cut_laws.proofs.Results.{graft_run}
 use Rattle.cut_laws.proofs.Cut.{cut_is}
-use Rattle.cut_laws.proofs.Few.{cut_is_few}
+use Rattle.cut_laws.proofs.Few.{light_is_whole, cut_is_few}
 use Rattle.cut_laws.proofs.Standing.{cut_stands}
 use Rattle.cut_laws.proofs.LegalTest.{legal_from, legal_to}
 
@@ -40,3 +40,6 @@ legal_plans_are_told plan = (legal_from plan, legal_to plan)
 
 pub pieces_stand_in_the_document : PiecesStandInTheDocument
 pieces_stand_in_the_document o t weight ascend = cut_stands o t (ascends_apart t ascend) weight
+
+pub a_light_document_is_not_cut : ALightDocumentIsNotCut
+a_light_document_is_not_cut o t limit h = light_is_whole o limit t h

@@ -11,12 +11,14 @@ use Rattle.cut_model.specs.Pieces.{Piece, Ranges}
 use Rattle.cut_model.specs.Reached.{right_answer, noted, notes_ranges}
 use Rattle.cut_laws.proofs.Regions.{Region, Cone, Every, Is, Later, wider, deeper, itself, all_of}
 use Rattle.cut_laws.proofs.TwoRuns.{Rules, element_both, items_both}
-use Rattle.cut_laws.proofs.RightAnswers.{Any₂}
-use Rattle.cut_laws.proofs.LastReached.{Whatever}
+use Rattle.cut_laws.proofs.RightAnswers.{AnyRegions}
+use Rattle.cut_laws.proofs.LastReached.{AnyValues}
 
+-- No range begins with an item in the region.
 abbrev pub Silent : Ranges → Region → Type 0
 Silent ranges Q = (p : List Step) (n : ℕ) → Q (in_item n p) → ranges p n ≡ None
 
+-- An item that was expanded comes behind the others, and no item behind it is answered.
 abbrev pub put_one : {S : Type 0} → Bool → List Tree → Tree × S → Outcome S (List Tree)
 put_one lists out v = Ok (out ++ spliced lists v.0, v.1)
 
@@ -66,7 +68,7 @@ module _ (o : Options) (ranges : Ranges) where
   put_array (Ok v) = refl
   put_array (Err e) = refl
 
-  quiet_rules : Rules o (notes_ranges o ranges) keeps_each (notes_ranges o ranges) keeps_each Whatever Any₂ Quiet Items (λ p t. Unit {0}) (λ p n ts. Unit {0}) (λ p ms. Unit {0})
+  quiet_rules : Rules o (notes_ranges o ranges) keeps_each (notes_ranges o ranges) keeps_each AnyValues AnyRegions Quiet Items (λ p t. Unit {0}) (λ p n ts. Unit {0}) (λ p ms. Unit {0})
   quiet_rules = record {
     same = λ X x. tt;
     weaken = λ X Q Q′ s l m m′ h p. record { by = λ silent. p.by (λ r n k. silent r n (h (in_item n r) k)) };
@@ -89,7 +91,7 @@ module _ (o : Options) (ranges : Ranges) where
   }
 
   pub element_quiet : (t : Tree) (a : At) (l : List Piece) → Silent ranges (Cone a.place Every) → state_of (element_over o (notes_ranges o ranges) keeps_each t a l) ≡ l
-  element_quiet t a l silent = (element_both o (notes_ranges o ranges) keeps_each (notes_ranges o ranges) keeps_each Whatever Any₂ Quiet Items (λ p t. Unit {0}) (λ p n ts. Unit {0}) (λ p ms. Unit {0}) quiet_rules t a tt l l).by silent
+  element_quiet t a l silent = (element_both o (notes_ranges o ranges) keeps_each (notes_ranges o ranges) keeps_each AnyValues AnyRegions Quiet Items (λ p t. Unit {0}) (λ p n ts. Unit {0}) (λ p ms. Unit {0}) quiet_rules t a tt l l).by silent
 
   pub items_quiet : (ts : Trees) (n : ℕ) (a : At) → Items ts n a
-  items_quiet ts n a = items_both o (notes_ranges o ranges) keeps_each (notes_ranges o ranges) keeps_each Whatever Any₂ Quiet Items (λ p t. Unit {0}) (λ p n ts. Unit {0}) (λ p ms. Unit {0}) quiet_rules ts n a tt
+  items_quiet ts n a = items_both o (notes_ranges o ranges) keeps_each (notes_ranges o ranges) keeps_each AnyValues AnyRegions Quiet Items (λ p t. Unit {0}) (λ p n ts. Unit {0}) (λ p ms. Unit {0}) quiet_rules ts n a tt

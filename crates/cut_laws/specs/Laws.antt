@@ -1,7 +1,7 @@
 -- The laws of cutting a document for expansion.
-use Rattle.std.specs.Prelude.{ℕ, ◌≡◌, ◌≤◌, ◌↔◌, true, List, length, Result}
+use Rattle.std.specs.Prelude.{ℕ, ◌≡◌, ◌≤◌, ◌↔◌, true, List, [], length, Result}
 use Rattle.std.specs.List.{AllByRecursion}
-use Rattle.ld_model.specs.Tree.{Tree}
+use Rattle.ld_model.specs.Tree.{Tree, weight}
 use Rattle.expand_model.specs.Scope.{Options, Fault}
 use Rattle.expand_model.specs.Expand.{document}
 use Rattle.cut_model.specs.Pieces.{Piece}
@@ -33,6 +33,10 @@ CutsAreFaithful = (o : Options) (t : Tree) (weight : ℕ) → KeysAscend t → I
 -- It has at most 4,096 pieces.
 abbrev pub CutsAreFew : Type 0
 CutsAreFew = (o : Options) (t : Tree) (weight : ℕ) → 1 ≤ weight → length (cut o t weight) ≤ most_pieces
+
+-- What weighs no more than the weight by which it is cut has no pieces.
+abbrev pub ALightDocumentIsNotCut : Type 0
+ALightDocumentIsNotCut = (o : Options) (t : Tree) (limit : ℕ) → weight t ≤ limit → cut o t limit ≡ []
 
 -- The items of each piece stand in the document, in the array at the piece's place, from the piece's number on.
 abbrev pub PiecesStandInTheDocument : Type 0

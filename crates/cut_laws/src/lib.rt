@@ -4,7 +4,7 @@
 //! `cut_model`.
 #![tactic(auto)]
 
-ghost use Rattle.cut_laws.specs.Laws.{CutsAreFaithful, CutsAreFew, CutsAreLegal, GraftingIsExpansion, LegalPlansAreTold, PiecesStandInTheDocument, RightAnswersAreExpansion};
+ghost use Rattle.cut_laws.specs.Laws.{ALightDocumentIsNotCut, CutsAreFaithful, CutsAreFew, CutsAreLegal, GraftingIsExpansion, LegalPlansAreTold, PiecesStandInTheDocument, RightAnswersAreExpansion};
 
 /// A document of which some ranges are taken from elsewhere comes to its expansion, the first error too, where what is taken for each
 /// range that expansion reaches is what expansion has for its items, with the context, property and flag that it has there. What is
@@ -19,7 +19,8 @@ pub fn grafting_is_expansion()
     ensures { GraftingIsExpansion }
 {}
 
-/// The pieces of a cut document have items, share none, and none lies inside another.
+/// The pieces of a cut document have items, share none, and none lies inside another. This and the next law hold of any value whose maps have
+/// their keys in ascending order, each once, as those have that are read from a JSON text; any base URL and contexts; and any weight.
 pub fn cuts_are_legal()
     ensures { CutsAreLegal }
 {}
@@ -30,13 +31,18 @@ pub fn cuts_are_faithful()
     ensures { CutsAreFaithful }
 {}
 
-/// A document is cut into at most 4,096 pieces, whatever it weighs.
+/// A document is cut into at most 4,096 pieces, whatever it weighs, for any weight to cut by but 0.
 pub fn cuts_are_few()
     ensures { CutsAreFew }
 {}
 
+/// A document that weighs no more than the weight by which it is cut has no pieces: it is expanded in one go.
+pub fn a_light_document_is_not_cut()
+    ensures { ALightDocumentIsNotCut }
+{}
+
 /// The items of each piece of a cut document stand in that document: an array is at the piece's place, and they are in it, from the piece's
-/// number on. So a piece can be found again by its place and two numbers.
+/// number on. So a piece can be found again by its place and two numbers. As above, each map has its keys in ascending order.
 pub fn pieces_stand_in_the_document()
     ensures { PiecesStandInTheDocument }
 {}
