@@ -1,0 +1,39 @@
+-- The laws of divisions.
+use Rattle.std.specs.Prelude.{ℕ, ◌^◌, ◌≡◌, ◌≤◌, ◌<◌, List, length}
+use Rattle.ld_model.specs.Tree.{Tree}
+use Rattle.node_model.specs.Generating.{walked, generate}
+use Rattle.op_model.specs.Noting.{Chunk, ops_of_chunks}
+use Rattle.op_model.specs.Running.{run, before}
+use Rattle.op_laws.specs.Exchanged.{Divides}
+use Rattle.sum_model.specs.Sums.{placed_chunks}
+use Rattle.shard_model.specs.Joined.{joined, with_count}
+use Rattle.shard_laws.specs.Laws.{labels_by, shards_of, ops_by_chunk}
+use Rattle.division_model.specs.Dividing.{IsDivision}
+use Rattle.division_model.specs.ByWeight.{cut_expanded}
+
+-- The chunks that a plan gives have the operations of the whole document, but for the names of nodes that have no id, and different nodes have
+-- different names.
+abbrev pub DivisionsDivide : Type 0
+DivisionsDivide = (chunks : List Chunk) (items : List Tree) → IsDivision chunks items → Divides chunks items
+
+-- Some plan gives the chunks that a document is cut into by weight.
+abbrev pub CutsAreDivisions : Type 0
+CutsAreDivisions = (items : List Tree) (weight : ℕ) → IsDivision (cut_expanded items weight) items
+
+-- So their operations are those of the whole document in this sense too.
+abbrev pub CutsDivide : Type 0
+CutsDivide = (items : List Tree) (weight : ℕ) → Divides (cut_expanded items weight) items
+
+-- The operations of a division, run one after another, come to the state of generation after the whole document.
+abbrev pub DivisionsAreGeneration : Type 0
+DivisionsAreGeneration =
+    (chunks : List Chunk) (items : List Tree) → IsDivision chunks items
+    → (run (ops_of_chunks 0 chunks) before).state ≡ walked items
+
+-- The shards of a division, put together, are what node map generation gives, with as many labels as there are names among it.
+abbrev pub ShardsOfDivisions : Type 0
+ShardsOfDivisions =
+    (shards : ℕ) → 0 < shards → (chunks : List Chunk) (items : List Tree) → IsDivision chunks items
+    → let names = labels_by (ops_of_chunks 0 chunks) in
+    length names ≤ 2 ^ 64
+    → with_count (length names) (joined (shards_of names shards (placed_chunks 0 (ops_by_chunk 0 chunks)))) ≡ generate items

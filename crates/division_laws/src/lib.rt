@@ -1,0 +1,33 @@
+//! The laws of divisions of an expanded document, as `division_model` defines them.
+//!
+//! There is no code here. Each function does nothing, and its contract is one law, which `specs/Laws.antt` states.
+#![tactic(auto)]
+
+ghost use Rattle.division_laws.specs.Laws.{CutsAreDivisions, CutsDivide, DivisionsAreGeneration, DivisionsDivide, ShardsOfDivisions};
+
+/// A document that is divided by any plan has the operations of the whole document, but for the names of nodes without an id, and different
+/// nodes keep different names. So every law of `op_laws` and `shard_laws` on chunks that divide a document holds of these.
+pub fn divisions_divide()
+    ensures { DivisionsDivide }
+{}
+
+/// The chunks that a document is cut into by weight are a division, whatever the weight.
+pub fn cuts_are_divisions()
+    ensures { CutsAreDivisions }
+{}
+
+/// So they divide the document as well.
+pub fn cuts_divide()
+    ensures { CutsDivide }
+{}
+
+/// The operations of a division, run one after another, come to what node map generation comes to (JSON-LD 1.1 API, section 7.2): the same
+/// node map, the same labels, as many of them, and the same first conflict of indexes.
+pub fn divisions_are_generation()
+    ensures { DivisionsAreGeneration }
+{}
+
+/// A division comes to the same by the sums of its shards, however many these are: each sum is put under labels, and all are put together.
+pub fn shards_of_divisions()
+    ensures { ShardsOfDivisions }
+{}
