@@ -4,3 +4,6 @@ pub mod Spines
 pub mod Ranges
 pub mod Divided
 pub mod Divides
+pub mod Kept
+pub mod Form
+pub mod Few

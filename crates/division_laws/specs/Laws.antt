@@ -1,15 +1,16 @@
 -- The laws of divisions.
-use Rattle.std.specs.Prelude.{ℕ, ◌^◌, ◌≡◌, ◌≤◌, ◌<◌, List, length}
-use Rattle.ld_model.specs.Tree.{Tree}
+use Rattle.std.specs.Prelude.{ℕ, ◌^◌, ◌≡◌, ◌≤◌, ◌<◌, List, length, true, false}
+use Rattle.std.specs.List.{AllByRecursion}
+use Rattle.ld_model.specs.Tree.{Tree, is_empty}
 use Rattle.node_model.specs.Generating.{walked, generate}
-use Rattle.op_model.specs.Noting.{Chunk, ops_of_chunks}
+use Rattle.op_model.specs.Noting.{Chunk, spine, range, is_placed, ops_of_chunks}
 use Rattle.op_model.specs.Running.{run, before}
 use Rattle.op_laws.specs.Exchanged.{Divides}
 use Rattle.sum_model.specs.Sums.{placed_chunks}
 use Rattle.shard_model.specs.Joined.{joined, with_count}
 use Rattle.shard_laws.specs.Laws.{labels_by, shards_of, ops_by_chunk}
 use Rattle.division_model.specs.Dividing.{IsDivision}
-use Rattle.division_model.specs.ByWeight.{cut_expanded}
+use Rattle.division_model.specs.ByWeight.{most_chunks, cut_expanded}
 
 -- The chunks that a plan gives have the operations of the whole document, but for the names of nodes that have no id, and different nodes have
 -- different names.
@@ -37,3 +38,16 @@ ShardsOfDivisions =
     → let names = labels_by (ops_of_chunks 0 chunks) in
     length names ≤ 2 ^ 64
     → with_count (length names) (joined (shards_of names shards (placed_chunks 0 (ops_by_chunk 0 chunks)))) ≡ generate items
+
+-- A chunk isn't empty, and a range has a subject exactly where it has a property.
+abbrev pub HasForm : Chunk → Type 0
+HasForm (spine os) = (is_placed (spine os) ≡ true) × (is_empty os ≡ false)
+HasForm (range items graph subject property reversed) =
+    (is_placed (range items graph subject property reversed) ≡ true) × (is_empty items ≡ false)
+
+abbrev pub DivisionsHaveForm : Type 0
+DivisionsHaveForm = (chunks : List Chunk) (items : List Tree) → IsDivision chunks items → AllByRecursion HasForm chunks
+
+-- There are few, for a weight from 1 on: the highest limit is reached before the doublings end.
+abbrev pub CutsAreFew : Type 0
+CutsAreFew = (items : List Tree) (weight : ℕ) → 1 ≤ weight → length (cut_expanded items weight) ≤ most_chunks

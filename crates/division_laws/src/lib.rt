@@ -3,7 +3,7 @@
 //! There is no code here. Each function does nothing, and its contract is one law, which `specs/Laws.antt` states.
 #![tactic(auto)]
 
-ghost use Rattle.division_laws.specs.Laws.{CutsAreDivisions, CutsDivide, DivisionsAreGeneration, DivisionsDivide, ShardsOfDivisions};
+ghost use Rattle.division_laws.specs.Laws.{CutsAreDivisions, CutsAreFew, CutsDivide, DivisionsAreGeneration, DivisionsDivide, DivisionsHaveForm, ShardsOfDivisions};
 
 /// A document that is divided by any plan has the operations of the whole document, but for the names of nodes without an id, and different
 /// nodes keep different names. So every law of `op_laws` and `shard_laws` on chunks that divide a document holds of these.
@@ -30,4 +30,15 @@ pub fn divisions_are_generation()
 /// A division comes to the same by the sums of its shards, however many these are: each sum is put under labels, and all are put together.
 pub fn shards_of_divisions()
     ensures { ShardsOfDivisions }
+{}
+
+/// No chunk of a division is empty, and a range has a subject exactly where it has a property, and is a reverse property's only where it has
+/// both.
+pub fn divisions_have_form()
+    ensures { DivisionsHaveForm }
+{}
+
+/// A document is cut by weight into at most 4,096 chunks, for a weight from 1 on.
+pub fn cuts_are_few()
+    ensures { CutsAreFew }
 {}
