@@ -7,3 +7,4 @@ pub mod Divides
 pub mod Kept
 pub mod Form
 pub mod Few
+pub mod Folded

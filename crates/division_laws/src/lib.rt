@@ -1,9 +1,10 @@
 //! The laws of divisions of an expanded document, as `division_model` defines them.
 //!
-//! There is no code here. Each function does nothing, and its contract is one law, which `specs/Laws.antt` states.
+//! There is no code here. Each function does nothing, and its contract is one law, which `specs/Laws.antt` or `specs/Folded.antt` states.
 #![tactic(auto)]
 
 ghost use Rattle.division_laws.specs.Laws.{CutsAreDivisions, CutsAreFew, CutsDivide, DivisionsAreGeneration, DivisionsDivide, DivisionsHaveForm, ShardsOfDivisions};
+ghost use Rattle.division_laws.specs.Folded.{FoldsOfDivisions};
 
 /// A document that is divided by any plan has the operations of the whole document, but for the names of nodes without an id, and different
 /// nodes keep different names. So every law of `op_laws` and `shard_laws` on chunks that divide a document holds of these.
@@ -41,4 +42,11 @@ pub fn divisions_have_form()
 /// A document is cut by weight into at most 4,096 chunks, for a weight from 1 on.
 pub fn cuts_are_few()
     ensures { CutsAreFew }
+{}
+
+/// The chunks of a division may be summed up each by itself, shard by shard, and the sums of a shard joined in any order, neighbours with
+/// neighbours; and each chunk may tell by itself which names it uses first. What comes of it is what node map generation gives (JSON-LD 1.1
+/// API, section 7.2): the same node map and as many labels, or the same first conflict.
+pub fn folds_of_divisions()
+    ensures { FoldsOfDivisions }
 {}
