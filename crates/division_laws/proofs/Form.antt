@@ -8,7 +8,7 @@ use Rattle.node_model.specs.Walk.{To, nowhere, under, in_list, reverse}
 use Rattle.node_laws.proofs.Lists.{all_last}
 use Rattle.op_model.specs.Names.{Name, iri}
 use Rattle.op_model.specs.Ops.{Op}
-use Rattle.op_model.specs.Noting.{spine, range}
+use Rattle.op_model.specs.Noting.{spine}
 use Rattle.op_laws.proofs.Gathered.{is_outside}
 use Rattle.division_model.specs.Dividing.{Division, with_spine, spine_ended, range_of, range_ended, undivided}
 use Rattle.division_laws.specs.Laws.{HasForm, DivisionsHaveForm}

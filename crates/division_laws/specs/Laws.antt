@@ -1,5 +1,5 @@
 -- The laws of divisions.
-use Rattle.std.specs.Prelude.{ℕ, ◌^◌, ◌≡◌, ◌≤◌, ◌<◌, List, length, true, false}
+use Rattle.std.specs.Prelude.{ℕ, zero, suc, ◌*◌, ◌^◌, ◌≡◌, ◌≤◌, ◌<◌, List, length, true, false}
 use Rattle.std.specs.List.{AllByRecursion}
 use Rattle.ld_model.specs.Tree.{Tree, is_empty}
 use Rattle.node_model.specs.Generating.{walked, generate}
@@ -10,7 +10,7 @@ use Rattle.sum_model.specs.Sums.{placed_chunks}
 use Rattle.shard_model.specs.Joined.{joined, with_count}
 use Rattle.shard_laws.specs.Laws.{labels_by, shards_of, ops_by_chunk}
 use Rattle.division_model.specs.Dividing.{IsDivision}
-use Rattle.division_model.specs.ByWeight.{most_chunks, cut_expanded}
+use Rattle.division_model.specs.ByWeight.{capped, chunks_at, most_chunks, cut_expanded}
 
 -- The chunks that a plan gives have the operations of the whole document, but for the names of nodes that have no id, and different nodes have
 -- different names.
@@ -51,3 +51,19 @@ DivisionsHaveForm = (chunks : List Chunk) (items : List Tree) → IsDivision chu
 -- There are few, for a weight from 1 on: the highest limit is reached before the doublings end.
 abbrev pub CutsAreFew : Type 0
 CutsAreFew = (items : List Tree) (weight : ℕ) → 1 ≤ weight → length (cut_expanded items weight) ≤ most_chunks
+
+-- The limit after so many doublings of a weight.
+abbrev pub doubled : ℕ → ℕ → ℕ
+doubled weight zero = capped weight
+doubled weight (suc times) = capped (2 * doubled weight times)
+
+-- Chunks are those at the first limit, of a weight and its doublings, at which there are few.
+pub record AreTheFirstFew (chunks : List Chunk) (items : List Tree) (weight : ℕ) : Type 0 where
+  pub times : ℕ
+  pub same : chunks ≡ chunks_at (doubled weight times) items
+  pub few : length chunks ≤ most_chunks
+  pub many_before : (k : ℕ) → k < times → most_chunks < length (chunks_at (doubled weight k) items)
+
+-- A document is cut by weight at the first limit at which it has few chunks.
+abbrev pub CutsAreTheFirstFew : Type 0
+CutsAreTheFirstFew = (items : List Tree) (weight : ℕ) → 1 ≤ weight → AreTheFirstFew (cut_expanded items weight) items weight

@@ -3,7 +3,7 @@
 //! There is no code here. Each function does nothing, and its contract is one law, which `specs/Laws.antt` or `specs/Folded.antt` states.
 #![tactic(auto)]
 
-ghost use Rattle.division_laws.specs.Laws.{CutsAreDivisions, CutsAreFew, CutsDivide, DivisionsAreGeneration, DivisionsDivide, DivisionsHaveForm, ShardsOfDivisions};
+ghost use Rattle.division_laws.specs.Laws.{CutsAreDivisions, CutsAreFew, CutsAreTheFirstFew, CutsDivide, DivisionsAreGeneration, DivisionsDivide, DivisionsHaveForm, ShardsOfDivisions};
 ghost use Rattle.division_laws.specs.Folded.{FoldsOfDivisions};
 
 /// A document that is divided by any plan has the operations of the whole document, but for the names of nodes without an id, and different
@@ -42,6 +42,11 @@ pub fn divisions_have_form()
 /// A document is cut by weight into at most 4,096 chunks, for a weight from 1 on.
 pub fn cuts_are_few()
     ensures { CutsAreFew }
+{}
+
+/// A document is cut by weight at the weight itself, or else at the first of its doublings at which there are at most 4,096 chunks.
+pub fn cuts_are_the_first_few()
+    ensures { CutsAreTheFirstFew }
 {}
 
 /// The chunks of a division may be summed up each by itself, shard by shard, and the sums of a shard joined in any order, neighbours with
