@@ -1,0 +1,10 @@
+pub mod Unnamed
+pub mod Stands
+pub mod Spines
+pub mod Ranges
+pub mod Divided
+pub mod Divides
+pub mod Kept
+pub mod Form
+pub mod Few
+pub mod Folded
