@@ -1,5 +1,5 @@
 -- Why there is nothing to write, inside the call.
-use Rattle.std.specs.Prelude.{ℕ, ◌≡◌, List, Option, Some, IfSome, Result, Ok, Err, Vec, ⊤}
+use Rattle.std.specs.Prelude.{ℕ, ◌≡◌, Bool, true, false, List, Option, Some, IfSome, Result, Ok, Err, Vec, ⊤}
 use Rattle.std.specs.declared.alloc.Global.{Global}
 use Rattle.ld_io.specs.Faults.{Rose}
 use Rattle.ld_io.specs.declared.whole.ReadStop.{ReadStop}
@@ -28,6 +28,17 @@ status_of_stop ReadFault = status.ReadFault
 status_of_stop FolderFault = status.FolderFault
 status_of_stop TooLarge = status.TooLarge
 status_of_stop OutOfMemory = status.OutOfMemory
+
+-- The refusals of the folder's index.
+abbrev pub is_of_index : Refusal → Bool
+is_of_index (refusal.IndexLine line) = true
+is_of_index (refusal.Missing line) = true
+is_of_index _ = false
+
+-- The status is a refusal of the folder's index.
+abbrev pub refuses_index : Status → Bool
+refuses_index (status.Refused r) = is_of_index r
+refuses_index _ = false
 
 -- What a refusal of the folder is to the call.
 abbrev pub stop_of_store : StoreRefusal → Stop

@@ -1,5 +1,5 @@
 // The call that the program makes.
-ghost use Rattle.std.specs.Prelude.{◌≡◌, ◌⊎◌, List, ℕ, true, false, IsTrue, IfSome, OnOk, OnErr, MatchResult, Option};
+ghost use Rattle.std.specs.Prelude.{◌≡◌, ◌⊎◌, List, ℕ, true, false, IsTrue, IfSome, IfErr, OnOk, OnErr, MatchResult, Option};
 ghost use Rattle.std.specs.Option.{option_map};
 ghost use Rattle.std.specs.Io.KnownBytes.{IsAtEnd};
 ghost use Rattle.ld_io.specs.Faults.{Rose};
@@ -8,7 +8,7 @@ ghost use Rattle.ctx_store.specs.Stored.{holds};
 ghost use Rattle.ctx_store.specs.Stops.{Answers, CountsStoreFaults};
 ghost use Rattle.ld_run.specs.Words.{words_of};
 ghost use Rattle.ld_run.specs.Out.{Out, found, is_told_refused, due_of, due_for, due, asks_for_contexts, asks_for_no_input};
-ghost use Rattle.ld_run.specs.Stops.{IsInputStop, IsDueStop, AreDue, CountsSource, CountsFolder};
+ghost use Rattle.ld_run.specs.Stops.{refuses_index, status_of_stop, IsInputStop, IsDueStop, AreDue, CountsSource, CountsFolder};
 ghost use Rattle.ld_run.specs.Promise.{sunk, IsDone, IsRefused, SaysLine, WritesFront, OutStays, HasRisen, SaysFront, IsDueStatus, SaidAs, Wrote};
 ghost use Rattle.ld_run.specs.Lines.{line_of};
 
@@ -80,6 +80,7 @@ pub fn run_alone<S: Source, F: Folder, K: Sink, E: Sink>(
 
     // What isn't asked for isn't touched, and the folder's files stay.
     ensures source { asks_for_no_input (words_of words.now) (F.files folder.old) ≡ true → source.new ≡ source.old }
+    ensures index { refuses_index result ≡ true → source.new ≡ source.old }
     ensures folder { asks_for_contexts (words_of words.now) ≡ false → folder.new ≡ folder.old }
     ensures files { F.files folder.new ≡ F.files folder.old }
 
@@ -113,6 +114,7 @@ fn due_text<S: Source, F: Folder>(
         (λ stop. CountsFolder stop (F.faults folder.old) (F.faults folder.new)) }
     ensures source { asks_for_no_input (words_of words.now) (F.files folder.old) ≡ true → source.new ≡ source.old }
     ensures folder_fault { result ≡ Err Stop.FolderFault → source.new ≡ source.old }
+    ensures index { IfErr result (λ stop. refuses_index (status_of_stop stop) ≡ true → source.new ≡ source.old) }
     ensures folder { asks_for_contexts (words_of words.now) ≡ false → folder.new ≡ folder.old }
     ensures files { F.files folder.new ≡ F.files folder.old }
 {
@@ -138,6 +140,7 @@ fn text_for<S: Source, F: Folder>(
         (λ stop. CountsFolder stop (F.faults folder.old) (F.faults folder.new)) }
     ensures source { is_told_refused (found order (F.files folder.old)) ≡ true → source.new ≡ source.old }
     ensures folder_fault { result ≡ Err Stop.FolderFault → source.new ≡ source.old }
+    ensures index { IfErr result (λ stop. refuses_index (status_of_stop stop) ≡ true → source.new ≡ source.old) }
     ensures folder { order.contexts ≡ false → folder.new ≡ folder.old }
     ensures files { F.files folder.new ≡ F.files folder.old }
 {
@@ -170,6 +173,7 @@ fn text_of_source<S: Source>(
     ensures end { OnOk result (IsAtEnd (S.left source.new)) }
     ensures faults { MatchResult result (λ _. S.faults source.new ≡ S.faults source.old)
         (λ stop. CountsSource stop (S.faults source.old) (S.faults source.new)) }
+    ensures index { IfErr result (λ stop. refuses_index (status_of_stop stop) ≡ false) }
 {
     let bytes = read_to_end(alloc, source)?;
     let items = items_for(alloc, order, store, bytes)?;
