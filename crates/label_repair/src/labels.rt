@@ -3,12 +3,13 @@ ghost use Rattle.std.specs.Prelude.{◌≡◌, ◌≤◌, ◌^◌, [], length, O
 ghost use Rattle.op_model.specs.Running.{used, with_name, place_of};
 ghost use Rattle.op_types.specs.View.{name_view, names_view};
 ghost use Rattle.shard_model.specs.Numbered.{number_of};
+ghost use Rattle.subtree_summary.specs.Uses.{uses_view};
 
 use indexmap::IndexSet;
 use op_types::Name;
 use std::alloc::{AllocError, Global};
 use std::marker::Model;
-use subtree_summary::Keyed;
+use subtree_summary::{Keyed, LabelUses};
 
 /// The names that have labels, each once, in the order of first use. The number in the label of a name is the count of names before it.
 #[derive(Drop)]
@@ -38,6 +39,13 @@ impl Labels {
         Labels {
             names: IndexSet::with_hasher(alloc, hasher),
         }
+    }
+
+    /// The labels of the names that some chunks use, whose names are hashed as they were.
+    pub fn of_uses(uses: LabelUses) -> Labels
+        ensures { result ≡ uses_view uses }
+    {
+        Labels { names: uses.names }
     }
 
     /// How many labels there are.
