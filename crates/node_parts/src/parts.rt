@@ -1,34 +1,42 @@
 // The node map, by the sums of chunks.
-ghost use Rattle.std.specs.Prelude.{◌≡◌, ◌+◌, [], ◌∷◌, ◌++◌, length, slice_get, Ok, MatchResult, IfOk, IfSome, OnOk, map as each};
+ghost use Rattle.std.specs.Prelude.{◌≡◌, ◌+◌, ◌∷◌, [], length, slice_get, Ok, MatchResult, IfOk, IfSome};
+ghost use Rattle.chunk_sums.specs.Summing.{then_said};
 ghost use Rattle.node_model.specs.Generating.{generate};
 ghost use Rattle.node_types.specs.Views.{Stops};
 ghost use Rattle.op_model.specs.Noting.{top_range, ops_of};
+ghost use Rattle.subtree_summary.specs.OnTheWay.{nothing_said, sums_view};
 ghost use Rattle.subtree_summary.specs.Parts.{part_view};
 ghost use Rattle.subtree_summary.specs.Uses.{uses_view};
-ghost use Rattle.shard_laws.specs.Laws.{labels_by};
-ghost use Rattle.shard_model.specs.Numbered.{names_of};
-ghost use Rattle.summary_merge.specs.Runs.{runs_joined};
-ghost use Rattle.node_parts.specs.Chunked.{run_of_chunk, run_of_rows, uses_from};
+ghost use Rattle.node_parts.specs.Chunked.{rows_said};
 
 use crate::chunks::chunks_of;
 use crate::digest::digest_of;
-use chunk_sums::summarise_items;
-use label_repair::{Labels, NodeShard, join_shards, number_labels, rename};
+use chunk_sums::sum_items;
+use label_repair::{Labels, NodeShard, join_shards, rename};
 use ld_tree::Trees;
 use node_types::{MapStop, NodeMap};
 use std::alloc::{AllocError, Global};
-use subtree_summary::{Keyed, LabelUses, Part};
-use summary_merge::{Run, merge_next};
+use subtree_summary::{Keyed, LabelUses, Part, Summary, Sums};
+use summary_merge::Run;
 
-/// What the chunks so far say.
+/// What the rows so far say.
 #[derive(Drop)]
-struct Chunked {
+struct Told {
+    /// How many there were.
+    count: u32,
+    /// What they said.
+    sums: Sums,
+}
+
+/// What all rows say, where there is one shard.
+#[derive(Drop)]
+struct Whole {
     /// How many there were.
     count: u32,
     /// What they add to a node map.
-    run: Run,
-    /// The names that each of them uses.
-    uses: Vec<LabelUses>,
+    part: Part,
+    /// The names in it that need labels.
+    uses: LabelUses,
 }
 
 /// The node map of the items of an expanded document, and how many labels were issued for it (JSON-LD 1.1 API, section 7.2), by the sums of
@@ -43,13 +51,10 @@ pub fn node_map_by_parts(alloc: Global, items: Trees) -> Result<(NodeMap, u64), 
 {
     let hasher = Keyed::new(&digest_of(&items));
     let rows = chunks_of(alloc, items)?;
-    let Chunked {
-        count: _,
-        run,
-        uses,
-    } = sum_chunks(alloc, rows, hasher)?;
-    let labels = labels_of(alloc, uses)?;
-    let shard = rename(alloc, run, &labels)?;
+    let told = sum_rows(alloc, rows, hasher)?;
+    let Whole { count, part, uses } = whole_of(alloc, told);
+    let labels = Labels::of_uses(uses);
+    let shard = rename(alloc, Run::over(part, 0, count), &labels)?;
     let count = labels.count();
     match join_shards(alloc, alone(alloc, shard)?) {
         Ok(map) => Ok((map, count)),
@@ -65,28 +70,46 @@ fn alone(alloc: Global, shard: NodeShard) -> Result<Vec<NodeShard>, AllocError>
     Ok(shards)
 }
 
-/// The labels of names, by the chunks' uses, which are let go.
-fn labels_of(alloc: Global, uses: Vec<LabelUses>) -> Result<Labels, AllocError>
-    ensures { IfOk result (λ labels. labels ≡ names_of (each uses_view uses.items)) }
+/// What the rows say, numbered from 0. Each is told behind those before it, so that no sum of one alone stands, and none is merged.
+fn sum_rows(alloc: Global, rows: Vec<Trees>, hasher: Keyed) -> Result<Told, AllocError>
+    ensures { IfOk result (λ t. sums_view t.sums ≡ rows_said 0 rows.items (nothing_said 0 1)) }
 {
-    let labels = number_labels(alloc, uses.as_slice())?;
-    Ok(labels)
-}
-
-/// What the chunks say, numbered from 0. Each is merged into the run of those before it as it comes.
-fn sum_chunks(alloc: Global, rows: Vec<Trees>, hasher: Keyed) -> Result<Chunked, AllocError>
-    ensures run { IfOk result (λ c. c.run ≡ run_of_rows rows.items) }
-    ensures uses { IfOk result (λ c. each uses_view c.uses.items ≡ uses_from 0 rows.items) }
-{
-    let mut all = Chunked {
+    let mut all = Told {
         count: 0,
-        run: Run::none(alloc, 0, hasher),
-        uses: Vec::with_capacity(alloc, rows.len())?,
+        sums: Sums::new(alloc, 0, 1, hasher)?,
     };
     for row in rows {
-        all = with_chunk(alloc, all, row, hasher)?;
+        all = with_row(alloc, all, row)?;
     }
     Ok(all)
+}
+
+/// What the rows say, and then one more.
+fn with_row(alloc: Global, all: Told, row: Trees) -> Result<Told, AllocError>
+    ensures count { IfOk result (λ t. t.count ≡ all.count + 1) }
+    ensures said { IfOk result (λ t. sums_view t.sums ≡ then_said all.count (sums_view all.sums) (ops_of all.count (top_range row))) }
+{
+    let Told {
+        count: number,
+        sums,
+    } = all;
+    let Some(count) = number.checked_add(1) else {
+        return Err(AllocError);
+    };
+    let sums = sum_items(alloc, sums, row, number)?;
+    Ok(Told { count, sums })
+}
+
+/// What all rows say in the one shard.
+fn whole_of(alloc: Global, told: Told) -> Whole
+    requires { (sums_view told.sums).shards ≡ 1 }
+    ensures part { part_view result.part ≡ (sums_view told.sums).said 0 }
+    ensures uses { uses_view result.uses ≡ (sums_view told.sums).names }
+{
+    let Told { count, sums } = told;
+    let Summary { parts, uses } = sums.into_summary();
+    let part = only(alloc, parts);
+    Whole { count, part, uses }
 }
 
 /// The one part.
@@ -99,25 +122,4 @@ fn only(alloc: Global, parts: Vec<Part>) -> Part
         Some(part) => part,
         None => Part::new(alloc, Keyed::new(&[])),
     }
-}
-
-/// What the chunks say, and then one more.
-fn with_chunk(alloc: Global, all: Chunked, row: Trees, hasher: Keyed) -> Result<Chunked, AllocError>
-    requires { all.run.end ≡ all.count }
-    ensures count { IfOk result (λ c. c.count ≡ all.count + 1) }
-    ensures run { IfOk result (λ c. c.run ≡ runs_joined all.run (run_of_chunk all.count row)) }
-    ensures uses { IfOk result (λ c. each uses_view c.uses.items ≡ each uses_view all.uses.items ++ labels_by (ops_of all.count (top_range row)) ∷ []) }
-{
-    let Chunked {
-        count: number,
-        run,
-        mut uses,
-    } = all;
-    let Some(count) = number.checked_add(1) else {
-        return Err(AllocError);
-    };
-    let summary = summarise_items(alloc, row, number, 1, hasher)?;
-    let run = merge_next(run, Run::of(only(alloc, summary.parts), number))?;
-    uses.push(summary.uses)?;
-    Ok(Chunked { count, run, uses })
 }
