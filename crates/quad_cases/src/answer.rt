@@ -49,7 +49,12 @@ fn room(len: usize) -> u64 {
 
 /// The quads of a text.
 pub(crate) fn read(alloc: Global, text: &[u8]) -> Result<String, AllocError> {
-    match read_lines(alloc, text, 1) {
+    read_from(alloc, text, 1)
+}
+
+/// The same of a text whose first line has this number.
+pub(crate) fn read_from(alloc: Global, text: &[u8], first: u32) -> Result<String, AllocError> {
+    match read_lines(alloc, text, first as u64) {
         Ok(quads) => {
             let bytes = written(
                 alloc,

@@ -5,6 +5,7 @@
 //! | Word | What it does | What it writes |
 //! |---|---|---|
 //! | `read` | reads the text and writes its quads | the quads, or the place of the bad line |
+//! | `from NUMBER` | the same, of a text whose first line has that number | the same |
 //! | `fault COUNT` | the same, into a sink that takes 7 bytes at once and fails at its call of that number, from 0 | what the sink holds |
 //! | `cut` | reads every front of the text | the answers, each with the lengths that give it |
 //! | `bytes` | reads the text with each byte for `@@` | the answers, each with its bytes |
@@ -19,7 +20,7 @@ mod answer;
 mod runs;
 mod text;
 
-use answer::{faulted, long, many, read};
+use answer::{faulted, long, many, read, read_from};
 use runs::{bytes, chars, cut};
 use std::alloc::{AllocError, Global};
 use std::io;
@@ -47,7 +48,7 @@ fn answer_line(rt: &HostRuntime, line: &str) -> io::Result<()> {
 fn answer_of(alloc: Global, line: &str) -> Result<String, AllocError> {
     let (word, rest) = line.split_once(' ').unwrap_or((line, ""));
     match word {
-        "fault" | "long" | "many" => counted(alloc, word, rest),
+        "fault" | "from" | "long" | "many" => counted(alloc, word, rest),
         _ => {
             let text = plain(alloc, rest)?;
             match word {
@@ -66,6 +67,7 @@ fn counted(alloc: Global, word: &str, rest: &str) -> Result<String, AllocError> 
     let text = plain(alloc, rest)?;
     match word {
         "fault" => faulted(alloc, text.as_slice(), count),
+        "from" => read_from(alloc, text.as_slice(), count),
         "long" => long(alloc, text.as_slice(), count),
         _ => many(alloc, text.as_slice(), count),
     }
