@@ -112,7 +112,7 @@ pub fn scalar_context<'s>(
     Ok(context)
 }
 
-/// The context of the values at an index, under a property with this definition (JSON-LD 1.1 API, section 5.1.2, step 13.8.2). Its errors
+/// The context of the values at an index, under a property with this definition (JSON-LD 1.1 API, section 5.1.2, steps 13.8.3.1 to 13.8.3.3). Its errors
 /// are those of [`enter`].
 #[tactic(auto, unfolding(expand_model::specs::Indexes::index_context))]
 pub fn index_context<'s>(

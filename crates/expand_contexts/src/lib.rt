@@ -1,4 +1,4 @@
-//! The contexts with which a value is expanded (JSON-LD 1.1 API, section 5.1.2, steps 3, 4.2, 7 to 12 and 13.8.2): leaving a context that
+//! The contexts with which a value is expanded (JSON-LD 1.1 API, section 5.1.2, steps 3, 4.2, 7 to 12 and 13.8.3): leaving a context that
 //! isn't propagated, property-scoped contexts, a map's own `@context`, and type-scoped contexts.
 //!
 //! A loop over the items of an array keeps a [`Memo`]: the last contexts that were made there, so that a context that repeats from item to

@@ -11,7 +11,7 @@ use Rattle.ctx_model.specs.Definition.{without_colon, completed, finished}
 use Rattle.ctx_model.specs.Creation.{started, agreeing, id_mapping, term_mapping, mapping_of, directed, defined_by, create_new}
 use Rattle.ctx_model.specs.Process.{settings_taken, remote_taken, terms_taken, map_taken, item_taken, processed, process}
 use Rattle.expand_model.specs.Scope.{Options, Fault}
-use Rattle.expand_model.specs.Values.{value_object, expand_value, add_all}
+use Rattle.expand_model.specs.Values.{value_object, expand_value, add_all, add_value}
 use Rattle.expand_model.specs.Contexts as contexts
 use Rattle.expand_model.specs.Contexts.{in_property, is_left, in_map, type_terms, typed_by, typed_by_entry, entered}
 use Rattle.expand_model.specs.Entries.{name_of, task_of, under}
@@ -54,3 +54,8 @@ a_value_has_no_list = refl
 a_language_map_gives_strings : document options (map ((codes "@context", entry_of (codes "n") (map ((codes "@container", text (codes "@language")) ∷ (codes "@id", text (codes "http://e/n")) ∷ []))) ∷ (codes "n", map ((codes "de", text (codes "x")) ∷ (codes "en", list (text (codes "y") ∷ null ∷ [])) ∷ [])) ∷ [])) ≡ Ok (entry_of (codes "http://e/n") (list (map ((codes "@language", text (codes "de")) ∷ (codes "@value", text (codes "x")) ∷ []) ∷ map ((codes "@language", text (codes "en")) ∷ (codes "@value", text (codes "y")) ∷ []) ∷ [])) ∷ [])
 unfolding document entry name_of task_of under entered in_map in_property contexts.processed is_left typed_by_entry begun keyword_entry keyword_put keyword_told keyword_added property_told property_added language_map add_all finish_map put process processed item_taken map_taken terms_taken settings_taken create_new defined_by directed mapping_of id_mapping agreeing started completed finished expand_iri created prefix_created
 a_language_map_gives_strings = refl
+
+-- An array in an array gives its items, too.
+items_of_items_are_added : add_value (codes "k") (list (list (text (codes "a") ∷ list [] ∷ []) ∷ text (codes "b") ∷ [])) true [] ≡ (codes "k", list (text (codes "a") ∷ text (codes "b") ∷ [])) ∷ []
+unfolding add_value add_all put
+items_of_items_are_added = refl

@@ -16,7 +16,7 @@ use Rattle.expand_model.specs.Scope.{Options, Scope, definition_of, container_of
 use Rattle.expand_model.specs.Values.{expand_value, put_text}
 use Rattle.expand_model.specs.Contexts.{by_scoped, scoped_of, previous_or}
 
--- Step 13.8.2: the map context: for maps of ids and types the previous context, where there is one; for maps of types with the
+-- Steps 13.8.3.1 to 13.8.3.3: the map context: for maps of ids and types the previous context, where there is one; for maps of types with the
 -- scoped context of the index. [Ours: the definition of the index is looked up in the map context.]
 abbrev pub map_context : Shape → Context → Context
 map_context s c = if s.id || s.types then previous_or c else c

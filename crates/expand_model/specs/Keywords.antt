@@ -85,7 +85,7 @@ keyword_entry c types word.Direction t json = direction_told t
 keyword_entry c types word.Index t json = index_told t
 keyword_entry c types _ t json = Ok None
 
--- Step 13.4.17: the value is the entry's; a later `@type` is appended to the earlier, as an array.
+-- Step 13.4.16: the value is the entry's; a later `@type` is appended to the earlier, as an array.
 abbrev pub type_put : Tree → Pairs → Pairs
 type_put t r = if has (codes "@type") r then add_all (codes "@type") (values_of t) r else put (codes "@type") t r
 

@@ -2,7 +2,7 @@
 use Rattle.std.specs.Prelude.{◌&&◌, ◌||◌, Bool, true, false, List, [], ◌∷◌, ◌++◌, Option, None, Some, codes, if◌then◌else◌}
 use Rattle.std.specs.Option.{option_map, option_map_or, option_and_then}
 use Rattle.std.specs.Str.{bytes_eq}
-use Rattle.ld_model.specs.Tree.{Tree, text, array, object, Pairs, trees_of, members_of, member_at, put}
+use Rattle.ld_model.specs.Tree.{Tree, Trees, no_trees, tree, text, array, object, Pairs, trees_of, members_of, member_at, put}
 use Rattle.ctx_types.specs.declared.definition.Slot.{Slot}
 use Rattle.ctx_types.specs.declared.definition.Slot.TheVariants.{Absent, Null, Is}
 use Rattle.ctx_types.specs.declared.definition.Side.{Side}
@@ -97,7 +97,17 @@ abbrev pub add_each : Text → List Tree → Pairs → Pairs
 add_each k [] r = r
 add_each k (t ∷ ts) r = add_each k ts (add_one k t r)
 
--- Add Value: each item of an array is added, and any other value itself.
+-- The values that are added for a value: for an array those of each of its items, and any other value itself.
+abbrev mutual
+  pub added_values : Tree → List Tree
+  added_values (array ts) = all_added_values ts
+  added_values t = t ∷ []
+
+  pub all_added_values : Trees → List Tree
+  all_added_values no_trees = []
+  all_added_values (tree t ts) = added_values t ++ all_added_values ts
+
+-- Add Value: each item of an array is added in the same way, and any other value itself.
 unfoldable pub add_value : Text → Tree → Bool → Pairs → Pairs
-add_value k t true r = add_all k (values_of t) r
-add_value k t false r = add_each k (values_of t) r
+add_value k t true r = add_all k (added_values t) r
+add_value k t false r = add_each k (added_values t) r

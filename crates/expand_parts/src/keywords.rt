@@ -88,7 +88,7 @@ fn test_told(word: Keyword) -> Result<(), PartStop>
     }
 }
 
-/// The value is the entry's (step 13.4.17).
+/// The value is the entry's (step 13.4.16).
 #[tactic(auto, unfolding(expand_model::specs::Keywords::keyword_put))]
 fn put_keyword(
     alloc: Global,

@@ -70,8 +70,9 @@ pub fn add_all(
     Ok(())
 }
 
-/// Adds a value to an entry of a map (the standard's Add Value): each item of an array, and any other value itself. With `as_array` the entry
-/// is an array from then on; without, it is the value itself until a second one comes.
+/// Adds a value to an entry of a map (the standard's Add Value): each item of an array in the same way, so an array in it gives its items,
+/// too; and any other value itself. With `as_array` the entry is an array from then on; without, it is the value itself until a second
+/// one comes.
 #[tactic(auto, unfolding(expand_model::specs::Values::add_value))]
 pub fn add_value(
     alloc: Global,
@@ -83,13 +84,37 @@ pub fn add_value(
     ensures { IfOk result (λ ms. ms ≡ values.add_value key.now (view value) as_array map) }
 {
     let mut map = map;
-    let added = values_of(alloc, value)?;
+    let added = added_values(alloc, value)?;
     if as_array {
         add_all(alloc, &mut map, key.copy()?, added)?;
         return Ok(map);
     }
     add_each(alloc, &mut map, key, added)?;
     Ok(map)
+}
+
+/// The values that are added for a value: for an array those of each of its items, and any other value itself.
+fn added_values(alloc: Global, value: Tree) -> Result<Trees, AllocError>
+    ensures { IfOk result (λ ts. ts ≡ values.added_values (view value)) }
+{
+    let mut added = Trees::new(alloc);
+    gather(value, &mut added)?;
+    Ok(added)
+}
+
+/// Puts the values that are added for a value behind others.
+fn gather(value: Tree, added: &mut Trees) -> Result<(), AllocError>
+    ensures { OnOk result (added.new ≡ added.old ++ values.added_values (view value)) }
+{
+    match value {
+        Tree::Items(items) => {
+            for item in items {
+                gather(item, added)?;
+            }
+            Ok(())
+        }
+        other => added.push(other),
+    }
 }
 
 fn add_each(alloc: Global, map: &mut Members, key: &Text, added: Trees) -> Result<(), AllocError>
