@@ -5,13 +5,13 @@ ghost use Rattle.ld_model.specs.Tree.{array, trees_of};
 ghost use Rattle.ld_tree.specs.View.{trees_view};
 ghost use Rattle.node_model.specs.Walk.{walk};
 ghost use Rattle.node_walk.specs.Seen.{to_view};
-ghost use Rattle.op_model.specs.Noting.{noting, no_notes, is_placed, place_of_items, ops_of, top_range};
+ghost use Rattle.op_model.specs.Noting.{noting, no_notes, is_placed, place_of_items, ops_of};
 ghost use Rattle.op_types.specs.View.{name_view};
 ghost use Rattle.chunk_ops.specs.Views.{chunk_view};
 
 use crate::notes::Notes;
 use ld_tree::{Tree, Trees};
-use node_walk::{To, walk_document, walk_items};
+use node_walk::{To, walk_items};
 use op_types::{Entries, Name, Ops};
 use std::alloc::{AllocError, Global};
 
@@ -62,20 +62,6 @@ pub fn ops_of(alloc: Global, chunk: &Chunk<'_>, number: u32) -> Result<Ops, Allo
             Ok(noted(alloc, number, graph, to, items)?)
         }
     }
-}
-
-/// The same as [`ops_of`], of items of the document's own array: what they say of the nodes is moved and not copied.
-///
-/// # Errors
-///
-/// `AllocError` where memory is refused, or where there are more nodes without an id than a `u64` can count.
-pub fn ops_of_items(alloc: Global, items: Trees, number: u32) -> Result<Ops, AllocError>
-    ensures { IfOk result (λ os. os ≡ ops_of number (top_range items)) }
-{
-    let graph = Name::default_graph(alloc)?;
-    let mut notes = Notes::new(alloc, number);
-    walk_document(alloc, &mut notes, &graph, items)?;
-    Ok(notes.into_ops())
 }
 
 /// Where the items of a range go.

@@ -10,5 +10,5 @@ mod notes;
 mod operations;
 mod shard;
 
-pub use chunk::{Chunk, ops_of, ops_of_items};
+pub use chunk::{Chunk, ops_of};
 pub use shard::shard_of;

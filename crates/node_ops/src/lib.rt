@@ -10,7 +10,7 @@ mod generation;
 mod labels;
 mod nodes;
 
-pub use chunk_ops::{Chunk, ops_of, ops_of_items, shard_of};
+pub use chunk_ops::{Chunk, ops_of, shard_of};
 pub use generation::{into_node_map, node_map};
 pub use node_types::{Conflict, MapStop, NodeMap, label_text};
 pub use op_types::{Entries, Entry, Name, Op, Ops};
