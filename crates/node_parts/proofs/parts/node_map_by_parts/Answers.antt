@@ -32,7 +32,7 @@ returns-in-Ok c =
     c.of_uses-labels.ensures ∙ c.whole_of-count.ensures.uses ∙ names_are rows said c.in_ok-told.ensures in
     let sum-is : c.over.result.sum ≡ sum_of_rows rows =
     ap (λ (r : RunOf). r.sum) c.over.ensures ∙ c.whole_of-count.ensures.part ∙ sum_is rows said c.in_ok-told.ensures in
-    let due = whole rows c.args.items c.of_uses-labels.result c.over.result.sum (shards_view c.in_ok-alone.field-0.items) c.in_ok-rows.ensures labels-are sum-is
+    let due = whole rows c.args.items c.of_uses-labels.result c.over.result.sum (shards_view c.in_ok-alone.field-0.items) c.in_ok-rows.ensures.all labels-are sum-is
     (ap shards_view c.in_ok-alone.ensures ∙ ap (λ s. s ∷ []) c.in_ok-shard.ensures) c.count-count.ensures.few in
     sym due ∙ ap (with_count (length c.of_uses-labels.result)) c.in-Ok.ensures
     ∙ ap (λ n. Ok (record { graphs = c.in-Ok.map.graphs; issued = n })) (sym c.count-count.ensures.count)
@@ -46,6 +46,6 @@ returns c =
     let sum-is : c.over.result.sum ≡ sum_of_rows rows =
     ap (λ (r : RunOf). r.sum) c.over.ensures ∙ c.whole_of-count.ensures.part ∙ sum_is rows said c.in_ok-told.ensures in
     let shards = shards_view c.in_ok-alone.field-0.items in
-    let due = whole rows c.args.items c.of_uses-labels.result c.over.result.sum shards c.in_ok-rows.ensures labels-are sum-is
+    let due = whole rows c.args.items c.of_uses-labels.result c.over.result.sum shards c.in_ok-rows.ensures.all labels-are sum-is
     (ap shards_view c.in_ok-alone.ensures ∙ ap (λ s. s ∷ []) c.in_ok-shard.ensures) c.count-count.ensures.few in
     subst (λ d. Stops d c.in-Err.stop) due (stops (length c.of_uses-labels.result) (finished_joined shards) c.in-Err.stop c.in-Err.ensures)
