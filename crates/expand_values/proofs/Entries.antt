@@ -48,3 +48,8 @@ ascending-view es sorted = subst (IsStrictlySortedBy byte_order) (sym (keys_of-m
 pub put_behind : (ms ns : Pairs) (e : List ℕ × model.Tree) (rest all : Pairs) → AreAscending all → ms ++ e ∷ rest ≡ all → ns ≡ insert_entry byte_order ms e.0 e.1 → ns ++ rest ≡ all
 put_behind ms ns e rest all sorted left set =
     ap (λ l. l ++ rest) (set ∙ insert_entry-behind ms e rest (subst AreAscending (sym left) sorted)) ∙ append_assoc ms (e ∷ []) rest ∙ left
+
+-- The same, where what is left is known, and the next one was put.
+pub put_next : (ms ns : Pairs) (e : List ℕ × model.Tree) (rest left all : Pairs) → AreAscending all → left ≡ e ∷ rest → ms ++ left ≡ all → ns ≡ put e.0 e.1 ms → ns ++ rest ≡ all
+unfolding put
+put_next ms ns e rest left all sorted step parts set = put_behind ms ns e rest all sorted (rw step at parts) set

@@ -6,8 +6,10 @@ ghost use Rattle.ld_model.specs.Tree.{member_at, put};
 ghost use Rattle.ld_tree.specs.View.{view, members_view};
 ghost use Rattle.expand_model.specs.Scope as scope;
 ghost use Rattle.expand_model.specs.Values as values;
+ghost use Rattle.expand_values.specs.Entries.{entries_view};
 
 use crate::lists::{join, values_of};
+use crate::members::taken;
 use ld_text::Text;
 use ld_tree::{Members, Tree, Trees};
 use std::alloc::{AllocError, Global};
@@ -17,10 +19,31 @@ use std::mem;
 
 /// A map that is being made: its entries are put there in any order of their keys, each in a time that grows with the logarithm of their
 /// number. Contracts see it as the pairs of key and value in ascending order of the keys.
-#[derive(Drop)]
 pub struct Draft {
-    entries: BTreeMap<Text, Tree>,
+    entries: Entries,
     alloc: Global,
+}
+
+/// Where the entries of a map stand that is being made.
+#[derive(Drop)]
+enum Entries {
+    /// As they will stand: while they are few, and for as long as their keys come in ascending order.
+    Few(Members),
+    /// In a tree, where many came in another order.
+    Many(BTreeMap<Text, Tree>),
+}
+
+/// As many entries are few.
+const FEW: usize = 32;
+
+// By hand, so that what is proved of a caller sees one drop, and not one for each place where entries stand.
+impl Drop for Draft {
+    fn drop(self) {
+        let Draft {
+            entries: _,
+            alloc: _,
+        } = self;
+    }
 }
 
 impl Model for Draft {
@@ -33,18 +56,18 @@ impl Model for Draft {
 
     ghost coded = { coded_list (coded× (coded_list coded_ℕ) tree_code) };
 
-    ghost use Rattle.ld_tree.specs.View.{members_view};
+    ghost use Rattle.expand_values.specs.Entries.{entries_view};
 
-    ghost view = { λ d. members_view d.entries.entries };
+    ghost view = { λ d. entries_view d.entries };
 }
 
 impl Draft {
-    /// A map without entries. It takes no memory.
-    pub fn new(alloc: Global) -> Draft
+    /// A map without entries, with room for that many where memory allows it.
+    pub fn new(alloc: Global, room: usize) -> Draft
         ensures { result ≡ [] }
     {
         Draft {
-            entries: BTreeMap::new(alloc),
+            entries: Entries::Few(with_room(alloc, room)),
             alloc,
         }
     }
@@ -53,7 +76,10 @@ impl Draft {
     pub fn get(&self, key: &Text) -> Option<&Tree>
         ensures { option_map (λ t. view t.now) result ≡ member_at key.now self.now }
     {
-        entry(&self.entries, key)
+        match &self.entries {
+            Entries::Few(few) => few.get(key.as_str()),
+            Entries::Many(many) => entry(many, key),
+        }
     }
 
     /// Whether there is this key. A word of at most 22 bytes takes no memory.
@@ -68,7 +94,28 @@ impl Draft {
     pub fn put(&mut self, key: Text, value: Tree) -> Result<(), AllocError>
         ensures { OnOk result (self.new ≡ put key (view value) self.old) }
     {
-        put_entry(&mut self.entries, key, value)
+        if self.is_crowded(&key) {
+            self.spread()?;
+        }
+        put_among(&mut self.entries, key, value)
+    }
+
+    /// Whether few entries are there no more, and this key would come between them.
+    fn is_crowded(&self, key: &Text) -> bool {
+        match &self.entries {
+            Entries::Few(few) => few.len() >= FEW && !comes_last(few, key),
+            Entries::Many(_) => false,
+        }
+    }
+
+    /// Moves the entries into a tree.
+    fn spread(&mut self) -> Result<(), AllocError>
+        ensures { OnOk result (self.new ≡ self.old) }
+    {
+        let none = Entries::Few(Members::new(self.alloc));
+        let held = mem::replace(&mut self.entries, none);
+        self.entries = Entries::Many(into_many(self.alloc, held)?);
+        Ok(())
     }
 
     /// Takes the value of a key, for which another one is put afterwards; None where there is no such key.
@@ -76,7 +123,10 @@ impl Draft {
         ensures value { option_map view result ≡ member_at key.now self.old }
         ensures left { (t : model.Tree) → put key.now t self.new ≡ put key.now t self.old }
     {
-        take_entry(&mut self.entries, key)
+        match &mut self.entries {
+            Entries::Few(few) => taken(few, key.as_str()),
+            Entries::Many(many) => take_entry(many, key),
+        }
     }
 
     /// Adds values to the entry of a key, which is an array from then on. Those that stand there are moved.
@@ -104,9 +154,74 @@ impl Draft {
     pub fn into_members(self, alloc: Global) -> Result<Members, AllocError>
         ensures { IfOk result (λ ms. ms ≡ self) }
     {
-        let Draft { entries, .. } = self;
-        members_of(alloc, entries)
+        let mut made = self;
+        let none = Entries::Few(Members::new(alloc));
+        into_members(alloc, mem::replace(&mut made.entries, none))
     }
+}
+
+/// An empty map with room for that many entries where memory allows it.
+fn with_room(alloc: Global, room: usize) -> Members
+    ensures { result ≡ [] }
+{
+    match Members::with_capacity(alloc, room) {
+        Ok(members) => members,
+        Err(_) => Members::new(alloc),
+    }
+}
+
+/// Whether a key comes after those of the members.
+fn comes_last(members: &Members, key: &Text) -> bool {
+    match members.at(members.len().saturating_sub(1)) {
+        None => true,
+        Some((last, _)) => last.as_str() < key.as_str(),
+    }
+}
+
+fn put_among(entries: &mut Entries, key: Text, value: Tree) -> Result<(), AllocError>
+    ensures { OnOk result (entries_view entries.new ≡ put key (view value) (entries_view entries.old)) }
+{
+    match entries {
+        Entries::Few(few) => put_few(few, key, value),
+        Entries::Many(many) => put_entry(many, key, value),
+    }
+}
+
+#[tactic(auto, unfolding(ld_model::specs::Tree::put))]
+fn put_few(few: &mut Members, key: Text, value: Tree) -> Result<(), AllocError>
+    ensures { OnOk result (few.new ≡ put key (view value) few.old) }
+{
+    few.set(key, value)?;
+    Ok(())
+}
+
+fn into_members(alloc: Global, entries: Entries) -> Result<Members, AllocError>
+    ensures { IfOk result (λ ms. ms ≡ entries_view entries) }
+{
+    match entries {
+        Entries::Few(few) => Ok(few),
+        Entries::Many(many) => members_of(alloc, many),
+    }
+}
+
+fn into_many(alloc: Global, entries: Entries) -> Result<BTreeMap<Text, Tree>, AllocError>
+    ensures { IfOk result (λ m. members_view m.entries ≡ entries_view entries) }
+{
+    match entries {
+        Entries::Few(few) => tree_of(alloc, few),
+        Entries::Many(many) => Ok(many),
+    }
+}
+
+/// The members, in a tree.
+fn tree_of(alloc: Global, members: Members) -> Result<BTreeMap<Text, Tree>, AllocError>
+    ensures { IfOk result (λ m. members_view m.entries ≡ members) }
+{
+    let mut many = BTreeMap::new(alloc);
+    for (key, value) in members {
+        put_entry(&mut many, key, value)?;
+    }
+    Ok(many)
 }
 
 fn entry<'a>(entries: &'a BTreeMap<Text, Tree>, key: &Text) -> Option<&'a Tree>

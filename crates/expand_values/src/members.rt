@@ -20,7 +20,7 @@ pub fn has(members: &Members, key: &str) -> bool
 }
 
 /// Takes the value of a key, for which another one is put afterwards; None where there is no such key.
-fn taken(members: &mut Members, key: &str) -> Option<Tree>
+pub(crate) fn taken(members: &mut Members, key: &str) -> Option<Tree>
     ensures value { option_map view result ≡ member_at key.now members.old }
     ensures left { (t : model.Tree) → put key.now t members.new ≡ put key.now t members.old }
 {

@@ -230,7 +230,7 @@ fn node<'x, R: Ranges>(
         ranges,
         &inside,
         &*members,
-        Draft::new(alloc),
+        Draft::new(alloc, members.len()),
     )?;
     finished(alloc, at, made)
 }
