@@ -17,7 +17,8 @@ use Rattle.ld_model.specs.Tree.{weight, members_weight, members_of, object, byte
 use Rattle.ld_tree.specs.declared.value.Tree.{Tree}
 use Rattle.ld_tree.specs.View.{view}
 use Rattle.json_canon.specs.Utf16.{utf16_order, comes_before}
-use Rattle.json_canon.specs.Canonical.{placed, in_order, with_members_in_order, values_in_order, json_of, json_members}
+use Rattle.ld_json.specs.Written.{json_of, json_members}
+use Rattle.json_canon.specs.Canonical.{placed, in_order, with_members_in_order, values_in_order}
 use Rattle.json_canon.specs.Lent.{lent}
 use Rattle.json_canon.proofs.OrderLemmas.{utf16_order_total}
 use Rattle.json_canon.proofs.Sorting.{AreInOrder, IsPermutation-in_order, in_order-AreInOrder, in_order_from_sorted, distinct_units, same_members}

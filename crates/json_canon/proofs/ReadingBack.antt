@@ -20,13 +20,14 @@ use Rattle.serde_json.proofs.Numbers.{number_of-decimal, number_of-negative}
 use Rattle.serde_json.proofs.OnLiterals.{serde_json_on_literals}
 use Rattle.ld_json.specs.Read.{tree_of, trees_in, members_in}
 use Rattle.ld_model.specs.Tree.{Tree, null, truth, whole, one_one, text, array, object, Trees, no_trees, tree, Members, no_members, member, members_of, member_list, byte_order}
-use Rattle.json_canon.specs.Canonical.{with_members_in_order, each_in_order, values_in_order, in_order, placed, json_of, json_items, json_members}
+use Rattle.ld_json.specs.Written.{json_of, json_items, json_members}
+use Rattle.json_canon.specs.Canonical.{with_members_in_order, each_in_order, values_in_order, in_order, placed}
 use Rattle.std.specs.Fmt.{signed_decimal}
 use Rattle.json_canon.specs.Utf16.{comes_before}
 use Rattle.json_canon.specs.Laws.{IsRead, AreRead, ValuesAreRead, ReadsBack}
 use Rattle.json_canon.proofs.Members.{map-in_order}
 use Rattle.json_canon.proofs.Inserting.{all_put, all_put-in_order}
-use Rattle.json_canon.proofs.Printing.{print-json_tokens}
+use Rattle.ld_json.proofs.Printing.{print-json_tokens}
 
 -- What is read for a value, and that the value comes back.
 record Reads (t : Tree) : Type 0 where

@@ -1,8 +1,5 @@
 -- The canonical text of a JSON value (RFC 8785).
-use Rattle.std.specs.Prelude.{ℕ, List, [], ◌∷◌, if◌then◌else◌, codes}
-use Rattle.std.specs.Fmt.{signed_decimal}
-use Rattle.json.specs.Json as json
-use Rattle.json.specs.Json.{Json}
+use Rattle.std.specs.Prelude.{ℕ, List, [], ◌∷◌, if◌then◌else◌}
 use Rattle.ld_model.specs.Tree.{Tree, null, truth, whole, one_one, text, array, object, Trees, no_trees, tree, Members, no_members, member, Pairs, members_of}
 use Rattle.ld_model.specs.CompactText.{compact}
 use Rattle.json_canon.specs.Utf16.{comes_before}
@@ -35,25 +32,6 @@ abbrev mutual
   pub values_in_order : Members → Pairs
   values_in_order no_members = []
   values_in_order (member k t ms) = (k, with_members_in_order t) ∷ values_in_order ms
-
--- A value as the grammar of the crate `json` has it (RFC 8259, section 2).
-abbrev mutual
-  pub json_of : Tree → Json
-  json_of null = json.null
-  json_of (truth b) = json.boolean b
-  json_of (whole n) = json.number (signed_decimal n)
-  json_of one_one = json.number (codes "1.1")
-  json_of (text s) = json.string s
-  json_of (array ts) = json.array (json_items ts)
-  json_of (object ms) = json.object (json_members ms)
-
-  pub json_items : Trees → json.Items
-  json_items no_trees = json.no_items
-  json_items (tree t ts) = json.item (json_of t) (json_items ts)
-
-  pub json_members : Members → json.Members
-  json_members no_members = json.no_members
-  json_members (member k t ms) = json.member k (json_of t) (json_members ms)
 
 -- The canonical text: the compact one, with the members in that order. Its escapes and its numbers are those of
 -- sections 3.2.2.2 and 3.2.2.3.

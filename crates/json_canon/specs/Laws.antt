@@ -10,7 +10,8 @@ use Rattle.serde_json.specs.Read.{read}
 use Rattle.ld_json.specs.Read.{tree_of}
 use Rattle.ld_model.specs.Tree.{Tree, null, truth, whole, one_one, text, array, object, Trees, no_trees, tree, Members, no_members, member, Pairs, member_list, AreAscending}
 use Rattle.json_canon.specs.Utf16.{utf16_order}
-use Rattle.json_canon.specs.Canonical.{canonical_text, in_order, json_of}
+use Rattle.ld_json.specs.Written.{json_of}
+use Rattle.json_canon.specs.Canonical.{canonical_text, in_order}
 
 -- A value as reading gives one: in each object each key once, in the order of the keys' bytes, and no whole number
 -- above 2^53 in magnitude.

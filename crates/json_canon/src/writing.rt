@@ -3,7 +3,8 @@ ghost use Rattle.std.specs.Prelude.{◌≡◌, ◌++◌, [], map, OnOk, IfOk};
 ghost use Rattle.json.specs.Tree.{json_tokens};
 ghost use Rattle.ld_tree.specs.View.{view};
 ghost use Rattle.json_canon.specs.Lent.{lent};
-ghost use Rattle.json_canon.specs.Canonical.{canonical_text, in_order, json_of, with_members_in_order};
+ghost use Rattle.ld_json.specs.Written.{json_of};
+ghost use Rattle.json_canon.specs.Canonical.{canonical_text, in_order, with_members_in_order};
 
 use crate::order::compare_utf16;
 use json::Writer;

@@ -11,3 +11,4 @@ pub mod Whole
 pub mod Unmarked
 pub mod NumberLaws
 pub mod Marked
+pub mod Printing

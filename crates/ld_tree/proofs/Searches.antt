@@ -9,7 +9,7 @@ use Rattle.std.proofs.lemmas.Map.Lookups.{exact_bytes}
 use Rattle.std_collections.specs.Layout.BTreeMap.{seek, one_further}
 use Rattle.ld_model.specs.Tree.{byte_order}
 
-flipped : (a b : List ℕ) (o : Ordering) → byte_order a b ≡ o → byte_order b a ≡ ordering_reverse o
+pub flipped : (a b : List ℕ) (o : Ordering) → byte_order a b ≡ o → byte_order b a ≡ ordering_reverse o
 flipped a b o is = nat_list_cmp_total.antisymm b a ∙ ap ordering_reverse is
 
 rises_by : (a b k : List ℕ) (o : Ordering) → byte_order a b ≡ Less → byte_order b k ≡ o → ordering_index (byte_order a k) ≤ ordering_index (byte_order b k)

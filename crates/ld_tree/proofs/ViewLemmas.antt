@@ -17,7 +17,7 @@ use Rattle.ld_model.proofs.Truths.{and-false}
 use Rattle.ld_model.specs.Tree as model
 use Rattle.ld_model.specs.Tree.{weight, trees_weight, members_weight, same_tree, same_trees, same_members, trees_of, members_of, array, object, AreAscending, AreBefore, byte_order, is_last_before, member_at}
 use Rattle.ld_tree.specs.declared.value.Tree.{Tree}
-use Rattle.ld_tree.proofs.Searches.{seek-past}
+use Rattle.ld_tree.proofs.Searches.{seek-past, flipped}
 use Rattle.ld_tree.specs.View.{view, trees_view, members_view, member_view}
 
 pub keys_of-members_view : (ms : List (List ℕ × Tree)) → keys_of (members_view ms) ≡ keys_of ms
@@ -175,6 +175,19 @@ last_at k (l ∷ n ∷ ms) (suc i) m is len = last_at k (n ∷ ms) i m is (omega
 pub is_last_before-view : (k : List ℕ) (ms : List (List ℕ × Tree)) (m : List ℕ × Tree) → slice_get ms (length ms - 1) ≡ Some m → is_last_before k (members_view ms) ≡ is_lt (byte_order m.0 k)
 is_last_before-view k [] m is = absurd (cc)
 is_last_before-view k (l ∷ ms) m is = last_at k (l ∷ ms) (length (l ∷ ms) - 1) m is (omega arith)
+
+-- The first member alone answers for a key that isn't behind it.
+first_decides : (k : List ℕ) (ms : List (List ℕ × Tree)) (m : List ℕ × Tree) (o : Ordering) → slice_get ms 0 ≡ Some m → byte_order m.0 k ≡ o → (seek (byte_order k) (members_view ms) ≡ match_ordering (ordering_reverse o) (Err 0) (Ok 0) (one_further (seek (byte_order k) (members_view (drop 1 ms)))))
+first_decides k [] m o is says = absurd (cc)
+first_decides k (l ∷ ms) m o is says =
+    let here : m ≡ l = cc in
+    ap (λ o. match_ordering o (Err 0) (Ok 0) (one_further (seek (byte_order k) (members_view ms)))) (flipped l.0 k o (subst (λ (x : List ℕ × Tree). byte_order x.0 k ≡ o) here says))
+
+pub at_first : (k : List ℕ) (ms : List (List ℕ × Tree)) (m : List ℕ × Tree) → slice_get ms 0 ≡ Some m → byte_order m.0 k ≡ Equal → seek (byte_order k) (members_view ms) ≡ Ok 0
+at_first k ms m is says = first_decides k ms m Equal is says
+
+pub before_first : (k : List ℕ) (ms : List (List ℕ × Tree)) (m : List ℕ × Tree) → slice_get ms 0 ≡ Some m → byte_order m.0 k ≡ Greater → seek (byte_order k) (members_view ms) ≡ Err 0
+before_first k ms m is says = first_decides k ms m Greater is says
 
 -- A member of a list is lighter than a tree that holds the list.
 trees_weight-view : (ts : List Tree) → trees_weight (trees_of (trees_view ts)) ≡ sum_by (λ t. weight (view t)) ts

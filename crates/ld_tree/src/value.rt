@@ -270,7 +270,7 @@ impl Members {
         ensures ok { OnOk result (self.new ≡ insert_entry byte_order self.old key (view tree)) }
         ensures err { OnErr result (self.new ≡ self.old) }
     {
-        match place_of(self.pairs.as_slice(), key.as_str()) {
+        match place_for(self.pairs.as_slice(), key.as_str()) {
             Ok(place) => {
                 self.pairs[place].1 = tree;
                 Ok(())
@@ -287,7 +287,7 @@ impl Members {
         ensures ok { OnOk result (self.new ≡ insert_entry byte_order self.old key.now (view tree)) }
         ensures err { OnErr result (self.new ≡ self.old) }
     {
-        match place_of(self.pairs.as_slice(), key) {
+        match place_for(self.pairs.as_slice(), key) {
             Ok(place) => {
                 self.pairs[place].1 = tree;
                 Ok(())
@@ -329,15 +329,31 @@ impl Members {
     }
 }
 
-/// Where a key stands, or where it belongs.
+/// Where a key stands, or where it belongs. Most keys that are looked for are keywords, which stand ahead of all others, so the
+/// first member alone often answers.
 fn place_of(pairs: &[(Text, Tree)], key: &str) -> Result<usize, usize>
+    requires { AreAscending (members_view pairs.now) }
+    ensures { result ≡ seek (byte_order key.now) (members_view pairs.now) }
+{
+    let Some(pair) = pairs.first() else {
+        return Err(0);
+    };
+    match compare_key(pair, key) {
+        Ordering::Less => pairs.binary_search_by(|pair| compare_key(pair, key)),
+        Ordering::Equal => Ok(0),
+        Ordering::Greater => Err(0),
+    }
+}
+
+/// The same, for a key that is to be put: keys come in order more often than not.
+fn place_for(pairs: &[(Text, Tree)], key: &str) -> Result<usize, usize>
     requires { AreAscending (members_view pairs.now) }
     ensures { result ≡ seek (byte_order key.now) (members_view pairs.now) }
 {
     if is_behind(pairs, key) {
         return Err(pairs.len());
     }
-    pairs.binary_search_by(|pair| compare_key(pair, key))
+    place_of(pairs, key)
 }
 
 /// Whether a key is greater than all others, by a look at the last.

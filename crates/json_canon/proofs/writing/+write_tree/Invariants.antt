@@ -3,7 +3,8 @@ use Rattle.json.specs.Token.{begin_array, begin_object}
 use Rattle.json.specs.Tree.{items_tokens, members_tokens}
 use Rattle.ld_model.specs.Tree.{weight, trees_weight, trees_of, members_of}
 use Rattle.ld_tree.specs.View.{view}
-use Rattle.json_canon.specs.Canonical.{json_items, json_members, each_in_order}
+use Rattle.ld_json.specs.Written.{json_items, json_members}
+use Rattle.json_canon.specs.Canonical.{each_in_order}
 use Rattle.json_canon.proofs.Members.{written}
 use Rattle.json_canon.proofs.writing.+write_tree.Given as goal
 

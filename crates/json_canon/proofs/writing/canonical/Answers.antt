@@ -1,7 +1,7 @@
 use Rattle.std.proofs.Common.{◌∙◌}
 use Rattle.ld_tree.specs.View.{view}
 use Rattle.json_canon.specs.Canonical.{with_members_in_order}
-use Rattle.json_canon.proofs.Printing.{printed_alone}
+use Rattle.ld_json.proofs.Printing.{printed_alone}
 use Rattle.json_canon.proofs.writing.canonical.Goals as goal
 
 pub returns : goal.returns

@@ -5,7 +5,7 @@ use Rattle.json.specs.Tree.{json_tokens, items_tokens, members_tokens}
 use Rattle.json.specs.Print.{print, print_from, quoted, separator}
 use Rattle.ld_model.specs.Tree.{Tree, null, truth, whole, one_one, text, array, object, Trees, no_trees, tree, Members, no_members, member}
 use Rattle.ld_model.specs.CompactText.{compact, trees_text, members_text, comma_if}
-use Rattle.json_canon.specs.Canonical.{json_of, json_items, json_members}
+use Rattle.ld_json.specs.Written.{json_of, json_items, json_members}
 
 after_bracket : (x y : ℕ) (s rest : List ℕ) → x ∷ (s ++ y ∷ rest) ≡ (x ∷ (s ++ y ∷ [])) ++ rest
 after_bracket x y s rest = ap (λ l. x ∷ l) (sym (append_assoc s (y ∷ []) rest))

@@ -1,0 +1,8 @@
+use Rattle.std.proofs.Common.{◌∙◌}
+use Rattle.ld_tree.specs.View.{view}
+use Rattle.ld_json.proofs.Printing.{printed_alone}
+use Rattle.ld_json.proofs.writing.text_of.Goals as goal
+
+pub returns : goal.returns
+returns c =
+    printed_alone (view c.args.tree.now) _ _ _ _ _ (c.new-out.ensures.before ∙ c.new.ensures.items) c.new-out.ensures.tokens c.in_ok-write_tree.ensures.before c.in_ok-write_tree.ensures.tokens c.into_inner.ensures.items
