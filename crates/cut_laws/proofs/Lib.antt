@@ -5,6 +5,7 @@ pub mod RightAnswers
 pub mod LastReached
 pub mod Places
 pub mod Results
+pub mod InOrder
 pub mod Unreached
 pub mod PiecesInRegions
 pub mod Beside

@@ -10,16 +10,16 @@ use Rattle.expand_model.specs.Over.{Asked, document_over}
 use Rattle.range_laws.specs.Right.{outcome}
 use Rattle.cut_model.specs.Pieces.{Piece, count_behind, begins_at, ranges_of}
 use Rattle.cut_model.specs.Legal.{IsNonEmpty, AreApart, IsLegal}
-use Rattle.cut_model.specs.Reached.{reached_of, IsFaithful}
+use Rattle.cut_model.specs.Reached.{noted, reached_of, IsFaithful}
 use Rattle.cut_model.specs.Answers.{RangeAnswer, answer_of, IsAnswered}
 use Rattle.cut_model.specs.Grafting.{AreResults, known_by}
-use Rattle.cut_laws.proofs.Lists.{is_some, some_or}
+use Rattle.cut_laws.proofs.Lists.{is_some, some_or, append_assoc, all_split, IsFront}
 use Rattle.cut_laws.proofs.Places.{begins_itself, apart_begin}
 use Rattle.cut_laws.proofs.RightAnswers.{IsOfRanges, answered_run}
 use Rattle.cut_laws.proofs.LastReached.{GoesOn, AllButLast, reached_ends}
 
 -- A result stands where the plan has a range.
-grafted_ranges : (plan : List Piece) (ds : List (Result (List Tree) Fault)) → IsOfRanges (known_by plan ds) (ranges_of plan)
+pub grafted_ranges : (plan : List Piece) (ds : List (Result (List Tree) Fault)) → IsOfRanges (known_by plan ds) (ranges_of plan)
 grafted_ranges [] ds p n g h = absurd (subst is_some (sym h) tt)
 grafted_ranges (x ∷ xs) [] p n g h = absurd (subst is_some (sym h) tt)
 grafted_ranges (x ∷ xs) (d ∷ ds) p n g h = by (begins_at p n x) h (λ h. grafted_ranges xs ds p n g h)
@@ -62,12 +62,24 @@ module _ (o : Options) where
   results_answer (y ∷ []) rest (Err f ∷ ds) legal results ends = (first y (Err f) rest ds results.0, tt)
   results_answer (y ∷ z ∷ zs) rest (Err f ∷ ds) legal results ends = absurd (subst GoesOn results.0 ends.0)
 
-  -- A run that looks results up among the plan's pieces comes to the expansion.
-  pub graft_run : {S : Type 0} (ask : Trees → ℕ → At → S → Asked S) (settle : Trees → ℕ → At → ℕ → S → Option S) (P : S → Type 0) (t : Tree) (plan : List Piece) (ds : List (Result (List Tree) Fault)) (s : S)
-      → IsLegal plan → IsFaithful o t plan → AreResults o plan ds → P s → ((ts : Trees) (n : ℕ) (a : At) (s : S) → P s → ((ask ts n a s).answer ≡ answer_of (known_by plan ds a.place n)) × P (ask ts n a s).state)
+  -- Pieces that were noted so far: what is known of each is right, and they are the first ones of the plan.
+  abbrev pub AreKnown : List Piece → List (Result (List Tree) Fault) → List Piece → Type 0
+  AreKnown plan ds l = AllByRecursion (λ y. IsAnswered o (known_by plan ds) y) l × IsFront l plan
+
+  known_before : (plan : List Piece) (ds : List (Result (List Tree) Fault)) (l : List Piece) (x : Piece) → AreKnown plan ds (l ++ x ∷ []) → AreKnown plan ds l × IsAnswered o (known_by plan ds) x
+  known_before plan ds l x h =
+      let parts = all_split (λ y. IsAnswered o (known_by plan ds) y) l (x ∷ []) h.0 in
+      ((parts.0, (x ∷ h.1.0, h.1.1 ∙ append_assoc l (x ∷ []) h.1.0)), parts.1.0)
+
+  -- A run that answers what is known of the plan's pieces by their results comes to the expansion.
+  pub graft_run : {S : Type 0} (ask : Trees → ℕ → At → S → Asked S) (settle : Trees → ℕ → At → ℕ → S → Option S) (P : S → List Piece → Type 0) (t : Tree) (plan : List Piece) (ds : List (Result (List Tree) Fault)) (s : S)
+      → IsLegal plan → IsFaithful o t plan → AreResults o plan ds → P s []
+      → ((ts : Trees) (n : ℕ) (a : At) (s : S) (l : List Piece) → P s l → AreKnown plan ds (noted (ranges_of plan a.place n) ts n a l) → ((ask ts n a s).answer ≡ answer_of (known_by plan ds a.place n)) × P (ask ts n a s).state (noted (ranges_of plan a.place n) ts n a l))
       → outcome (document_over o ask settle t s) ≡ document o t
   graft_run ask settle P t plan ds s legal faithful results p kept =
       let log = reached_of o (ranges_of plan) t in
-      answered_run o ask settle P (known_by plan ds) (ranges_of plan) (grafted_ranges plan ds) kept t s p
-      (subst (λ plan. AllByRecursion (λ y. IsAnswered o (known_by plan ds) y) log) (sym faithful.1)
-      (results_answer log faithful.0 ds (subst IsLegal faithful.1 legal) (subst (λ plan. AreResults o plan ds) faithful.1 results) (reached_ends o (ranges_of plan) t)))
+      answered_run o ask settle P (AreKnown plan ds) (known_by plan ds) (ranges_of plan) (grafted_ranges plan ds) (known_before plan ds) kept t s p (
+        subst (λ plan. AllByRecursion (λ y. IsAnswered o (known_by plan ds) y) log) (sym faithful.1)
+            (results_answer log faithful.0 ds (subst IsLegal faithful.1 legal) (subst (λ plan. AreResults o plan ds) faithful.1 results) (reached_ends o (ranges_of plan) t)),
+        faithful,
+      )

@@ -10,9 +10,9 @@ use Rattle.expand_model.specs.Over.{expands, Asked, Outcome, state_of, here, giv
 use Rattle.range_laws.specs.Right.{outcome, first_trees, IsRight, keeps_each}
 use Rattle.range_laws.proofs.Plain.{document_run}
 use Rattle.cut_model.specs.Pieces.{Piece, Ranges, count_behind}
-use Rattle.cut_model.specs.Reached.{right_answer, noted, notes_ranges, reached_of}
+use Rattle.cut_model.specs.Reached.{piece_of, right_answer, noted, notes_ranges, reached_of}
 use Rattle.cut_model.specs.Answers.{RangeAnswer, RangeAnswers, answer_of, IsAnswered}
-use Rattle.cut_laws.proofs.Lists.{is_some, some_or, all_split}
+use Rattle.cut_laws.proofs.Lists.{is_some, some_or}
 use Rattle.cut_laws.proofs.Regions.{Region}
 use Rattle.cut_laws.proofs.TwoRuns.{Rules, document_both}
 
@@ -40,22 +40,16 @@ Equal X x y = x ≡ y
 abbrev pub AnyRegions : Region → Region → Type 0
 AnyRegions Q R = Unit {0}
 
--- What is known is right for each of these ranges that expansion reaches.
-abbrev pub AnswersReached : Options → RangeAnswers → Ranges → Tree → Type 0
-AnswersReached o f ranges t = AllByRecursion (λ x. IsAnswered o f x) (reached_of o ranges t)
-
 -- Where something is answered, a range with so many items more begins.
 abbrev pub IsOfRanges : RangeAnswers → Ranges → Type 0
 IsOfRanges f ranges = (p : List Step) (n : ℕ) (g : RangeAnswer) → f p n ≡ Some g → ranges p n ≡ Some g.behind
 
-module _ (o : Options) {S : Type 0} (ask : Trees → ℕ → At → S → Asked S) (settle : Trees → ℕ → At → ℕ → S → Option S) (P : S → Type 0) (f : RangeAnswers) (ranges : Ranges) where
-  abbrev pub Agree : List Piece → Type 0
-  Agree l = AllByRecursion (λ x. IsAnswered o f x) l
-
-  -- Where the answers are right for what the second run has noted in the end, both come to the same.
+-- A run's state stands in this relation to what the run that notes ranges has noted so far; and all that this run notes agrees with something.
+module _ (o : Options) {S : Type 0} (ask : Trees → ℕ → At → S → Asked S) (settle : Trees → ℕ → At → ℕ → S → Option S) (P : S → List Piece → Type 0) (Agree : List Piece → Type 0) (f : RangeAnswers) (ranges : Ranges) where
+  -- Where the second run's notes agree in the end, both come to the same.
   pub record Same (X : Type 0) (Q : Region) (s : S) (l : List Piece) (m : Outcome S X) (m′ : Outcome (List Piece) X) : Type 0 where
     pub before : Agree (state_of m′) → Agree l
-    pub by : P s → Agree (state_of m′) → (outcome m ≡ outcome m′) × P (state_of m)
+    pub by : P s l → Agree (state_of m′) → (outcome m ≡ outcome m′) × P (state_of m) (state_of m′)
 
   same_here : (X : Type 0) (Q : Region) (s : S) (l : List Piece) (d : Result X Fault) → Same X Q s l (here s d) (here l d)
   same_here X Q s l (Ok x) = record { before = λ agree. agree; by = λ p agree. (refl, p) }
@@ -96,7 +90,10 @@ module _ (o : Options) {S : Type 0} (ask : Trees → ℕ → At → S → Asked 
   abbrev Items : Trees → ℕ → At → Type 0
   Items ts n a = (k : ℕ) (out : List Tree) (s : S) (l : List Piece) → Same (List Tree) (λ _. Unit {0}) s l (items_over o ask settle ts k n a out s) (items_over o (notes_ranges o ranges) keeps_each ts k n a out l)
 
-  module _ (of_ranges : IsOfRanges f ranges) (kept : (ts : Trees) (n : ℕ) (a : At) (s : S) → P s → ((ask ts n a s).answer ≡ answer_of (f a.place n)) × P (ask ts n a s).state) where
+  -- What is answered for a range that is noted last is right, where the notes agree; and so do those before it. And what is asked is answered by
+  -- what is known, where the notes that are left agree.
+  module _ (of_ranges : IsOfRanges f ranges) (fronts : (l : List Piece) (x : Piece) → Agree (l ++ x ∷ []) → Agree l × IsAnswered o f x)
+      (kept : (ts : Trees) (n : ℕ) (a : At) (s : S) (l : List Piece) → P s l → Agree (noted (ranges a.place n) ts n a l) → ((ask ts n a s).answer ≡ answer_of (f a.place n)) × P (ask ts n a s).state (noted (ranges a.place n) ts n a l)) where
     none_given : (p : List Step) (n : ℕ) → ranges p n ≡ None → f p n ≡ None
     none_given p n e = by (f p n) refl
       where
@@ -106,7 +103,7 @@ module _ (o : Options) {S : Type 0} (ask : Trees → ℕ → At → S → Asked 
 
     same_given : (ts : Trees) (n : ℕ) (a : At) (es : S → Outcome S Tree) (es′ : List Piece → Outcome (List Piece) Tree) (set : ℕ → S → Option S) (set′ : ℕ → List Piece → Option (List Piece)) (out : List Tree) (s : S) (l : List Piece)
         → ((s : S) (l : List Piece) → Same Tree (λ _. Unit {0}) s l (es s) (es′ l)) → (g : Option ℕ) → ranges a.place n ≡ g
-        → Same (List Tree × ℕ) (λ _. Unit {0}) s l (given es set (lists_at a) out (answer_of (f a.place n)) s) (given es′ set′ (lists_at a) out (right_answer o g ts n a) (noted g ts n a l))
+        → Same (List Tree × ℕ) (λ _. Unit {0}) s (noted g ts n a l) (given es set (lists_at a) out (answer_of (f a.place n)) s) (given es′ set′ (lists_at a) out (right_answer o g ts n a) (noted g ts n a l))
     same_given ts n a es es′ set set′ out s l p None e =
         subst (λ g. Same (List Tree × ℕ) (λ _. Unit {0}) s l (given es set (lists_at a) out (answer_of g) s) (given es′ set′ (lists_at a) out expands l)) (sym (none_given a.place n e))
         (same_bind (List Tree) (List Tree × ℕ) (λ _. Unit {0}) (λ _. Unit {0}) s l _ _ (λ v. Ok ((v.0, 0), v.1)) (λ v. Ok ((v.0, 0), v.1))
@@ -116,16 +113,21 @@ module _ (o : Options) {S : Type 0} (ask : Trees → ℕ → At → S → Asked 
     same_given ts n a es es′ set set′ out s l p (Some more) e =
         let x : Piece = record { at = a; from = n; items = first_trees (suc more) ts } in
         let d : Result (List Tree) Fault = items o (first_trees (suc more) ts) n a [] in
-        let parts : Agree (state_of (answer (l ++ x ∷ []) out more d)) → Agree l × Agree (x ∷ []) = λ agree. all_split (λ x. IsAnswered o f x) l (x ∷ []) (subst Agree (answered_state (l ++ x ∷ []) out more d) agree) in
+        let log : Agree (state_of (answer (l ++ x ∷ []) out more d)) → Agree (l ++ x ∷ []) = λ agree. subst Agree (answered_state (l ++ x ∷ []) out more d) agree in
         record {
-          before = λ agree. (parts agree).0;
+          before = log;
           by = λ k agree.
-              let is = (parts agree).1.0 in
+              let is = (fronts l x (log agree)).1 in
               let as_many : count_behind x.items ≡ more = some_value (count_behind x.items) more (sym (of_ranges a.place n (record { behind = count_behind x.items; result = d }) is) ∙ e) in (
                 ap (λ g. outcome (given es set (lists_at a) out (answer_of g) s)) is ∙ ap (λ m. outcome (answer s out m d)) as_many ∙ answered_same s (l ++ x ∷ []) out more d,
-                subst (λ g. P (state_of (given es set (lists_at a) out (answer_of g) s))) (sym is) (subst P (sym (answered_state s out (count_behind x.items) d)) k),
+                subst (λ g. P (state_of (given es set (lists_at a) out (answer_of g) s)) (state_of (answer (l ++ x ∷ []) out more d))) (sym is)
+                    (subst (λ t. P t (state_of (answer (l ++ x ∷ []) out more d))) (sym (answered_state s out (count_behind x.items) d)) (subst (P s) (sym (answered_state (l ++ x ∷ []) out more d)) k)),
               );
         }
+
+    front_of : (g : Option ℕ) (ts : Trees) (n : ℕ) (a : At) (l : List Piece) → Agree (noted g ts n a l) → Agree l
+    front_of None ts n a l agree = agree
+    front_of (Some more) ts n a l agree = (fronts l (piece_of more ts n a) agree).0
 
     same_turn : (ts : Trees) (n : ℕ) (a : At) (es : S → Outcome S Tree) (es′ : List Piece → Outcome (List Piece) Tree) (set : ℕ → S → Option S) (set′ : ℕ → List Piece → Option (List Piece)) (k : ℕ) (out : List Tree) (s : S) (l : List Piece)
         → ((s : S) (l : List Piece) → Same Tree (λ _. Unit {0}) s l (es s) (es′ l))
@@ -135,11 +137,11 @@ module _ (o : Options) {S : Type 0} (ask : Trees → ℕ → At → S → Asked 
         let after = (ask ts n a s).state in
         let inner = same_given ts n a es es′ set set′ out after l p (ranges a.place n) refl in
         record {
-          before = inner.before;
+          before = λ agree. front_of (ranges a.place n) ts n a l (inner.before agree);
           by = λ k agree.
-              let is = kept ts n a s k in
+              let is = kept ts n a s l k (inner.before agree) in
               let r = inner.by is.1 agree in
-              (ap (λ g. outcome (given es set (lists_at a) out g after)) is.0 ∙ r.0, subst (λ g. P (state_of (given es set (lists_at a) out g after))) (sym is.0) r.1);
+              (ap (λ g. outcome (given es set (lists_at a) out g after)) is.0 ∙ r.0, subst (λ g. P (state_of (given es set (lists_at a) out g after)) (state_of (turn es′ set′ (lists_at a) zero out (notes_ranges o ranges ts n a l) l))) (sym is.0) r.1);
         }
 
     same_next : (t : Tree) (ts : Trees) (n : ℕ) (a : At) → ((s : S) (l : List Piece) → Same Tree (λ _. Unit {0}) s l (element_over o ask settle t (item_at n a) s) (element_over o (notes_ranges o ranges) keeps_each t (item_at n a) l)) → Items ts (suc n) a → Items (tree t ts) n a
@@ -174,8 +176,8 @@ module _ (o : Options) {S : Type 0} (ask : Trees → ℕ → At → S → Asked 
     right_is ts n a (Some more) = refl
 
     -- A run that answers by what is known of ranges is expansion, its first error too, where that is right for each range which expansion
-    -- reaches; whatever its state is, of a kind that it keeps.
-    pub answered_run : (t : Tree) (s : S) → P s → AnswersReached o f ranges t → outcome (document_over o ask settle t s) ≡ document o t
+    -- reaches; whatever its state is, of a kind that stands to the ranges so far as it is to.
+    pub answered_run : (t : Tree) (s : S) → P s [] → Agree (reached_of o ranges t) → outcome (document_over o ask settle t s) ≡ document o t
     answered_run t s p agree =
         ((document_both o ask settle (notes_ranges o ranges) keeps_each Equal AnyRegions Same Items (λ p t. Unit {0}) (λ p n ts. Unit {0}) (λ p ms. Unit {0}) same_rules t tt s []).by p agree).0
         ∙ document_run o (notes_ranges o ranges) keeps_each (λ ts n a l. right_is ts n a (ranges a.place n)) t []
