@@ -1,0 +1,10 @@
+use Rattle.std.proofs.Common.{◌≡◌, length, drop}
+use Rattle.cut_model.specs.Pieces.{same_place}
+use Rattle.subtree_cut.proofs.steps.are_same.Given as goal
+
+abbrev pub invariant-loop-number : goal.invariant-loop-number
+invariant-loop-number l =
+    record {
+      long : length l.steps ≡ length l.others;
+      left : same_place (drop l.number l.steps) (drop l.number l.others) ≡ same_place l.steps l.others;
+    }
