@@ -1,10 +1,12 @@
 //! Makes node maps of documents in parts, in every way, and compares them with node map generation at once (JSON-LD 1.1 API, section 7.2). It
-//! reads cases from standard input, a line each: a word, and an expanded document of at most eight items.
+//! reads cases from standard input, a line each: a word, perhaps fields, and an expanded document, or items, of at most eight items.
 //!
 //! | Word | What it does | What it writes |
 //! |---|---|---|
 //! | `ways` | divides the items into chunks, merges the runs of each shard, renames them and joins the shards, in each of the ways below | how many ways there are, whether all give what generation gives, and that |
 //! | `sides` | takes each item as a chunk of its own, merges the runs of each shard from the left and from the right, and renames them | how many shards there are, of one to four, and whether both give the same shard each time |
+//! | `ops` | takes the items as a chunk: its number, its graph, the subject and the property under which they stand, and `reverse` or `-` stand before them | the chunk's operations |
+//! | `spine` | gives the operations of such a chunk as a spine, whose number stands before that of the chunk | the spine's operations |
 //!
 //! A way is a division of the items, an order of merging, a number of shards, and an order in which the shards are joined:
 //!
@@ -21,11 +23,14 @@
 
 mod division;
 mod merging;
+mod operations;
 mod outcome;
+mod saying;
 mod sides;
 mod ways;
 
 use ld_json::{ReadRefusal, Tree, Trees, read_tree};
+use operations::{range_of, range_text, spine_text};
 use sides::both_sides;
 use std::alloc::{AllocError, Global};
 use std::io;
@@ -54,17 +59,59 @@ fn answer_line(rt: &HostRuntime, line: &str) -> io::Result<()> {
 }
 
 fn answer_of(alloc: Global, line: &str) -> Result<String, AllocError> {
-    let (word, text) = line.split_once(' ').unwrap_or((line, ""));
-    match document_of(alloc, text)? {
-        Some(items) => {
-            if word == "sides" {
-                both_sides(alloc, items)
-            } else {
-                all_ways(alloc, items)
-            }
-        }
+    let (word, rest) = line.split_once(' ').unwrap_or((line, ""));
+    let answer = match word {
+        "ways" => ways_answer(alloc, rest)?,
+        "sides" => sides_answer(alloc, rest)?,
+        "ops" => range_answer(alloc, rest, None)?,
+        "spine" => spine_answer(alloc, rest)?,
+        _ => None,
+    };
+    match answer {
+        Some(text) => Ok(text),
         None => format!(in alloc; "no case"),
     }
+}
+
+fn ways_answer(alloc: Global, text: &str) -> Result<Option<String>, AllocError> {
+    match document_of(alloc, text)? {
+        Some(items) => Ok(Some(all_ways(alloc, items)?)),
+        None => Ok(None),
+    }
+}
+
+fn sides_answer(alloc: Global, text: &str) -> Result<Option<String>, AllocError> {
+    match document_of(alloc, text)? {
+        Some(items) => Ok(Some(both_sides(alloc, items)?)),
+        None => Ok(None),
+    }
+}
+
+fn spine_answer(alloc: Global, text: &str) -> Result<Option<String>, AllocError> {
+    let (number, fields) = text.split_once(' ').unwrap_or((text, ""));
+    match number.parse() {
+        Ok(number) => range_answer(alloc, fields, Some(number)),
+        Err(_) => Ok(None),
+    }
+}
+
+/// The operations of a range; where there is a number of a spine, as those of that.
+fn range_answer(
+    alloc: Global,
+    fields: &str,
+    spine: Option<u32>,
+) -> Result<Option<String>, AllocError> {
+    let Some(range) = range_of(fields) else {
+        return Ok(None);
+    };
+    let Some(items) = document_of(alloc, range.items)? else {
+        return Ok(None);
+    };
+    let text = match spine {
+        Some(number) => spine_text(alloc, number, &range, items.as_slice())?,
+        None => range_text(alloc, &range, items.as_slice())?,
+    };
+    Ok(Some(text))
 }
 
 /// The items of a document; None where the text is no array of so few items.
