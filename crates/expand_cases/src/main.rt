@@ -2,11 +2,12 @@
 //!
 //! The words stand a space apart. The document is the source, and the folder of contexts is `contexts`. A line that begins with `#` says what the
 //! cases behind it show, and is written as it is. An empty line is passed over. For a case it writes the words and the document, and in a line
-//! below, behind an arrow, what went to the output, or else what went to the error output.
+//! below, behind an arrow, the number of the exit status, and what went to the output, or else what went to the error output. Where the status
+//! isn't said in the words of the error output, its own words stand in one more line.
 #![tactic(auto)]
 
 use ld_io::{DirFolder, ListSink, ListSource};
-use ld_run::run_alone;
+use ld_run::{Status, run_alone};
 use std::io;
 use std::io::ErrorKind;
 
@@ -42,10 +43,12 @@ fn answer_case(rt: &HostRuntime, words: &str, document: &str) -> io::Result<()> 
     println!(rt; "{words} {document}")?;
     let mut out = ListSink::new(rt.alloc(), u32::MAX, Vec::new(rt.alloc()), ROOM)?;
     let mut err = ListSink::new(rt.alloc(), u32::MAX, Vec::new(rt.alloc()), ROOM)?;
-    run(rt, words, document, &mut out, &mut err)?;
-    print!(rt; "-> ")?;
+    let status = run(rt, words, document, &mut out, &mut err)?;
+    let number = status.number();
+    print!(rt; "-> {number} ")?;
     write_text(rt, out.bytes())?;
-    write_text(rt, err.bytes())
+    write_text(rt, err.bytes())?;
+    write_said(rt, &status, err.bytes())
 }
 
 /// Makes the program's call.
@@ -55,12 +58,12 @@ fn run(
     document: &str,
     out: &mut ListSink,
     err: &mut ListSink,
-) -> io::Result<()> {
+) -> io::Result<Status> {
     let words = words_of(rt, words)?;
     let bytes = String::from_str(rt.alloc(), document)?.into_bytes();
     let mut source = ListSource::new(bytes, u32::MAX, Vec::new(rt.alloc()));
     let mut folder = DirFolder::new(rt, String::from_str(rt.alloc(), CONTEXTS)?);
-    run_alone(
+    let status = run_alone(
         rt.alloc(),
         words.as_slice(),
         &mut source,
@@ -68,7 +71,7 @@ fn run(
         out,
         err,
     );
-    Ok(())
+    Ok(status)
 }
 
 /// The words of a case.
@@ -86,4 +89,13 @@ fn write_text(rt: &HostRuntime, bytes: &[u8]) -> io::Result<()> {
         Ok(text) => print!(rt; "{text}"),
         Err(_) => Err(io::Error::from(ErrorKind::InvalidData)),
     }
+}
+
+/// Writes how the status is said, where the error output has other words.
+fn write_said(rt: &HostRuntime, status: &Status, bytes: &[u8]) -> io::Result<()> {
+    let said = format!(in rt.alloc(); "error: {status}\n")?;
+    if bytes.is_empty() || bytes == said.as_bytes() {
+        return Ok(());
+    }
+    println!(rt; "   said as {status}")
 }
