@@ -1,20 +1,23 @@
 -- Keywords among the names of entries, texts of two parts, and maps whose keys expand to a word.
-use Rattle.std.proofs.Common.{◌≡◌, ℕ, List, [], ◌∷◌, ◌++◌, length, slice_get, Bool, true, false, Option, Some, None, refl, sym, ap, ◌∙◌, arith}
-use Rattle.std.specs.Prelude.{IfSome}
+use Rattle.std.proofs.Common.{◌≡◌, ℕ, List, [], ◌∷◌, ◌++◌, length, slice_get, Bool, true, false, ◌||◌, Option, Some, None, refl, sym, ap, ◌∙◌, arith}
+use Rattle.std.specs.Prelude.{IfSome, codes, is_some, if◌then◌else◌}
+use Rattle.std.specs.List.{list_any}
 use Rattle.std.specs.Bool.{one_answer}
-use Rattle.std.specs.Option.{option_map_or}
+use Rattle.std.specs.Option.{option_map_or, unwrap_or}
 use Rattle.std.specs.Str.{bytes_eq}
 use Rattle.std.proofs.lemmas.List.{append_cancel_left}
 use Rattle.std.proofs.lemmas.Slice.Eq.{bytes_eq-Decides}
 use Rattle.case_tables.specs.Keyword.{keyword_name}
 use Rattle.case_tables.specs.declared.keyword.Keyword.{Keyword}
-use Rattle.case_tables.specs.declared.keyword.Keyword.TheVariants.{Base}
+use Rattle.case_tables.specs.declared.keyword.Keyword.TheVariants.{Base, Context}
 use Rattle.ld_model.specs.Tree.{Tree, Pairs}
 use Rattle.ld_model.proofs.Puts.{bytes_eq-exact}
-use Rattle.ctx_types.specs.Context.{Text, Settings}
-use Rattle.ctx_types.specs.Expansion.{keywords}
+use Rattle.ctx_types.specs.Context.{Text, Settings, definition_at}
+use Rattle.ctx_types.specs.Expansion.{keywords, is_keyword, has_keyword_form, by_definition, as_iri, expand_iri}
+use Rattle.expand_model.specs.declared.Name.{Name}
+use Rattle.expand_model.specs.declared.Name.TheVariants as name
 use Rattle.expand_model.specs.Contexts.{is_alone}
-use Rattle.expand_model.specs.Entries.{word_among, name_as}
+use Rattle.expand_model.specs.Entries.{word_among, name_as, name_by, name_of}
 use Rattle.expand_model.specs.Scope.{expands_to}
 
 name_is_among : (k : Keyword) → word_among (keyword_name k) keywords ≡ Some k
@@ -48,3 +51,44 @@ pub alone_is : (c : Settings) (word k : Text) (t : Tree) (es : Pairs) → length
 alone_is c word k t [] one is = absurd (omega arith)
 alone_is c word k t (e ∷ []) one is = sym (ap (λ o. option_map_or (λ (m : Text × Tree). expands_to c word m.0) o false) is)
 alone_is c word k t (e ∷ f ∷ es) one is = absurd (omega arith)
+
+-- ---- texts of a keyword's form
+-- What a text of a keyword's form stands for: itself, where it is a keyword.
+form_expands : (c : Settings) (t : Text) → has_keyword_form t ≡ true → expand_iri c false true t ≡ (if is_keyword t then Some t else None)
+form_expands c t form = ap (λ (b : Bool). if is_keyword t then Some t else if b then None else unwrap_or (by_definition true (definition_at t c.terms)) (Some (as_iri c false true t))) form
+
+-- ---- such texts as names of entries
+-- What a keyword is as the name of an entry.
+abbrev kept : Keyword → Name
+kept Context = name.Dropped
+kept k = name.Keyword k
+
+name_is : (c : Settings) (k : Keyword) → name_of c (keyword_name k) ≡ kept k
+unfolding name_of
+name_is c Base = refl
+name_is c k = refl
+
+pub keyword_is : (c : Settings) (k : Keyword) (t : Text) → t ≡ keyword_name k → name_of c t ≡ kept k
+keyword_is c k t is = ap (name_of c) is ∙ name_is c k
+
+pub keyword_kept : (c : Settings) (k : Keyword) (t : Text) → t ≡ keyword_name k → bytes_eq t (codes "@context") ≡ false → name_of c t ≡ name.Keyword k
+keyword_kept c Context t is other = let same : bytes_eq t (codes "@context") ≡ true = ap (λ t. bytes_eq t (codes "@context")) is in absurd (cc)
+keyword_kept c k t is other = ap (name_of c) is ∙ name_is c k
+
+any_is_some : (t : Text) (ks : List Keyword) → list_any (λ k. bytes_eq t (keyword_name k)) ks ≡ is_some (word_among t ks)
+any_is_some t [] = refl
+any_is_some t (k ∷ ks) = by (bytes_eq t (keyword_name k)) (any_is_some t ks)
+  where
+    by : (b : Bool) → list_any (λ k. bytes_eq t (keyword_name k)) ks ≡ is_some (word_among t ks) → (b || list_any (λ k. bytes_eq t (keyword_name k)) ks) ≡ is_some (if b then Some k else word_among t ks)
+    by true rest = refl
+    by false rest = rest
+
+pub form_dropped : (c : Settings) (t : Text) → has_keyword_form t ≡ true → ((k : Keyword) → t ≡ keyword_name k → None ≡ Some k) → name_of c t ≡ name.Dropped
+unfolding name_of
+form_dropped c t form listed =
+    let none : is_keyword t ≡ false = any_is_some t keywords ∙ ap is_some (found_among t None listed tt) in
+    ap (λ o. if bytes_eq t (codes "@context") then name.Dropped else name_by o) (form_expands c t form ∙ ap (λ (b : Bool). if b then Some t else None) none) ∙ by (bytes_eq t (codes "@context"))
+  where
+    by : (b : Bool) → (if b then name.Dropped else name.Dropped) ≡ name.Dropped
+    by true = refl
+    by false = refl

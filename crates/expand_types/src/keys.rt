@@ -1,10 +1,11 @@
 // What keys expand to.
-ghost use Rattle.std.specs.Prelude.{◌≡◌, ◌++◌, IfOk, false, true, Some};
+ghost use Rattle.std.specs.Prelude.{◌≡◌, ◌++◌, IfOk, IsFalse, IsTrue, Some, codes, false, true};
 ghost use Rattle.std.specs.List.{list_any};
 ghost use Rattle.std.specs.Option.{option_map, option_and_then};
 ghost use Rattle.std.specs.Str.{bytes_eq};
 ghost use Rattle.iri_ref.specs.Parts.{colon};
 ghost use Rattle.ld_tree.specs.View.{view};
+ghost use Rattle.ctx_types.specs.Context.{Settings};
 ghost use Rattle.ctx_types.specs.ContextView.{settings_view};
 ghost use Rattle.ctx_types.specs.Expansion.{keywords};
 ghost use Rattle.ctx_types.specs.Expansion as steps;
@@ -29,12 +30,35 @@ use std::alloc::{AllocError, Global};
 pub fn name_of(alloc: Global, context: &ActiveContext, key: &str) -> Result<Name, AllocError>
     ensures { IfOk result (λ n. n ≡ entries.name_of (settings_view context.now) key.now) }
 {
-    if key == "@context" {
-        return Ok(Name::Dropped);
+    if has_keyword_form(key) {
+        return Ok(keyword_named(key));
     }
     match expand_iri(alloc, context, key, false, true)? {
         None => Ok(Name::Dropped),
         Some(iri) => Ok(named(iri)),
+    }
+}
+
+/// What a key of a keyword's form is as the name of an entry, in any context: one that is no keyword stands for null.
+fn keyword_named(key: &str) -> Name
+    ensures { (c : Settings) → IsTrue (steps.has_keyword_form key.now) → result ≡ entries.name_of c key.now }
+{
+    match key {
+        "@context" => Name::Dropped,
+        "@id" => Name::Keyword(Keyword::Id),
+        "@type" => Name::Keyword(Keyword::TypeWord),
+        "@value" => Name::Keyword(Keyword::Value),
+        _ => rarely_named(key),
+    }
+}
+
+/// The same, for a key that is none of those that stand in most maps.
+fn rarely_named(key: &str) -> Name
+    ensures { IsFalse (bytes_eq key.now (codes "@context")) → (c : Settings) → IsTrue (steps.has_keyword_form key.now) → result ≡ entries.name_of c key.now }
+{
+    match keyword_of(key) {
+        Some(word) => Name::Keyword(word),
+        None => Name::Dropped,
     }
 }
 
@@ -185,11 +209,8 @@ pub fn is_alone(context: &ActiveContext, word: &str, members: &Members) -> bool
 pub fn expands_to(context: &ActiveContext, word: &str, text: &str) -> bool
     ensures { result ≡ scope.expands_to (settings_view context.now) word.now text.now }
 {
-    if is_keyword(text) {
-        return text == word;
-    }
     if has_keyword_form(text) {
-        return false;
+        return text == word && is_keyword(text);
     }
     match context.terms.get(text) {
         Some(definition) => is_text(&definition.mapping, word),
