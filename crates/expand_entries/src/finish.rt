@@ -9,7 +9,7 @@ ghost use Rattle.expand_model.specs.Finish as last;
 ghost use Rattle.ctx_entries.specs.View.{tree_view};
 ghost use Rattle.expand_types.specs.Answers.{Answers};
 ghost use Rattle.expand_types.specs.View.{word_view};
-ghost use Rattle.expand_entries.specs.Finish.{is_array, is_lone_type};
+ghost use Rattle.expand_entries.specs.Finish.{begins_at, is_array, is_lone_type, is_plain, says_nothing, unless_nothing};
 
 use case_tables::Code;
 use ctx_entries::is_one_of;
@@ -49,8 +49,55 @@ pub fn finish_entries(
 ) -> Result<Option<Tree>, PartStop>
     ensures { Answers result (λ v. option_map view v) (last.finish_map entries (word_view property.entry)) }
 {
+    if are_plain(&entries) {
+        return Ok(unless_nothing(property, entries));
+    }
     let finished = by_value(alloc, entries)?;
     Ok(unless_dropped(property, finished))
+}
+
+/// Whether no key but `@id` may be a keyword: of such a map nothing is tested but what it is at the top of a graph.
+fn are_plain(entries: &Members) -> bool
+    ensures { result ≡ list_all is_plain entries.now }
+{
+    for (key, value) in entries {
+        if !is_plain(key, value) {
+            return false;
+        }
+    }
+    true
+}
+
+fn is_plain(key: &Text, _value: &Tree) -> bool
+    ensures { result ≡ is_plain (key.now, view _value.now) }
+{
+    !begins_at(key.as_str()) || key.as_str() == "@id"
+}
+
+/// Whether a text begins as keywords do.
+fn begins_at(text: &str) -> bool
+    ensures { result ≡ begins_at text.now }
+{
+    match text.as_bytes().split_first() {
+        Some((first, _)) => *first == b'@',
+        None => false,
+    }
+}
+
+/// What such a map comes to.
+fn unless_nothing(property: Option<&str>, entries: Members) -> Option<Tree>
+    ensures { option_map view result ≡ unless_nothing (word_view property.entry) entries }
+{
+    if says_nothing(property, &entries) {
+        return None;
+    }
+    Some(Tree::Map(entries))
+}
+
+fn says_nothing(property: Option<&str>, entries: &Members) -> bool
+    ensures { result ≡ says_nothing (word_view property.entry) entries.now }
+{
+    is_top(property) && (entries.is_empty() || is_lone(entries, "@id"))
 }
 
 fn by_value(alloc: Global, entries: Members) -> Result<Option<Tree>, PartStop>
