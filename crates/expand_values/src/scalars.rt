@@ -203,7 +203,8 @@ pub fn string_object(
 ) -> Result<Tree, AllocError>
     ensures { IfOk result (λ t. view t ≡ object (members_of (values.put_text (codes "@direction") direction (values.put_text (codes "@language") language (put (codes "@value") (model.text text) []))))) }
 {
-    let mut members = Members::with_capacity(alloc, 3)?;
+    let entries = 1 + usize::from(language.is_some()) + usize::from(direction.is_some());
+    let mut members = Members::with_capacity(alloc, entries)?;
     members.put(alloc, "@value", Tree::Str(text))?;
     put_text(alloc, &mut members, "@language", language)?;
     put_text(alloc, &mut members, "@direction", direction)?;
