@@ -132,6 +132,18 @@ none_scoped o types (one_one ∷ ts) c none = none_scoped o types ts c none
 none_scoped o types (array xs ∷ ts) c none = none_scoped o types ts c none
 none_scoped o types (object ms ∷ ts) c none = none_scoped o types ts c none
 
+unscoped_value : (o : Options) (types : Context) (v : Tree) → list_any (is_scoped types.current) (values_of v) ≡ false → typed_by_all o types (type_terms v) types ≡ Ok types
+unfolding type_terms
+unscoped_value o types v none = none_scoped o types (values_of v) types none
+
+-- Where one entry alone tells types, and none of them has a scoped context.
+pub lent_typing : (o : Options) (types : Context) (es : Pairs) (v : Tree) (rest : Pairs) (json : Bool) → Some (v, rest) ≡ first_type types.current es → None ≡ first_type types.current rest → list_any (is_scoped types.current) (values_of v) ≡ false → json ≡ last_is_json types.current (values_of v) → typing o types es ≡ Ok (types, json)
+lent_typing o types es v rest json first last none is =
+    typing_from o types es v rest first
+    ∙ ap (λ r. r >>= behind o types es rest) (unscoped_value o types v none)
+    ∙ ap (λ r. r >>= (λ x. Ok (x, is_json x.current es))) (typed_is o types rest ∙ ap (typed_from o types) (sym last))
+    ∙ ap (λ b. Ok (types, b)) (json_first types.current es (Some (v, rest)) first ∙ sym is)
+
 -- ---- the last value
 text_alone : (c : Settings) (t : Tree) → last_is_json c (t ∷ []) ≡ is_json_text c t
 text_alone c (text s) = refl
@@ -164,6 +176,13 @@ entered_by o es a l local same at =
     over : (r : Result Context Code) → (r >>= (λ types. typed o types es types >>= (λ c. Ok (map_scope a types (c, is_json c.current es))))) ≡ (r >>= with_types o es a)
     over (Ok types) = sym (bind_bind (typed o types es types) (λ c. Ok (c, is_json c.current es)) (λ t. Ok (map_scope a types t)))
     over (Err e) = refl
+
+-- A map that makes no context.
+pub lent_entered : (o : Options) (es : Pairs) (a : Scope) (l json : Bool) → left l a.context ≡ left (is_left es a) a.context → l ≡ false → is_some (scoped_of (definition_of a.property a.context)) ≡ false → None ≡ member_at (codes "@context") es → typing o a.context es ≡ Ok (a.context, json) → entered o es a ≡ Ok (map_scope a a.context (a.context, json))
+lent_entered o es a l json same stays unscoped local types =
+    entered_by o es a false None (ap (λ b. left b a.context) (sym stays) ∙ same) local
+    ∙ ap (λ r. r >>= with_types o es a) (sym (in_map_alone o a) ∙ without_scoped o (definition_of a.property a.context) a.context unscoped)
+    ∙ ap (λ r. r >>= (λ t. Ok (map_scope a a.context t))) types
 
 -- The last of the values of an array.
 pub json_of_items : (c : Settings) (v : Tree) (ts : List Tree) (o : Option Tree) → v ≡ array (trees_of ts) → o ≡ slice_get ts (length ts - 1) → last_is_json c (values_of v) ≡ option_map_or (is_json_text c) o false

@@ -1,9 +1,9 @@
 // The contexts of a map, of a scalar, and of the values at an index.
-ghost use Rattle.std.specs.Prelude.{◌≡◌};
+ghost use Rattle.std.specs.Prelude.{◌≡◌, IfSome, Ok};
 ghost use Rattle.ctx_types.specs.ContextView.{context_view};
 ghost use Rattle.expand_model.specs.Contexts as contexts;
 ghost use Rattle.expand_model.specs.Indexes as indexes;
-ghost use Rattle.expand_model.specs.Scope.{container_of, definition_of};
+ghost use Rattle.expand_model.specs.Scope.{container_of, definition_of, Options as OptionsData};
 ghost use Rattle.expand_types.specs.Answers.{Answers};
 ghost use Rattle.expand_types.specs.View.{definition_in, map_scope_view, options_view, scope_view, word_view};
 ghost use Rattle.expand_contexts.specs.Memo.{MayRecall};
@@ -12,7 +12,7 @@ ghost use Rattle.expand_contexts.specs.View.{active_view, entered_view};
 use crate::active::{Active, made_or};
 use crate::memo::{Memo, recall};
 use crate::scoped::{by_scoped, has_scoped, leaves, previous_or};
-use crate::typing::typed;
+use crate::typing::{json_unless_typed, typed};
 use case_tables::Shape;
 use ctx_types::{ActiveContext, TermDef};
 use expand_types::{MapScope, Options, PartStop, Scope};
@@ -87,6 +87,28 @@ pub fn enter<'s, 'x>(
         types,
         typed: typing.made,
         json: typing.json,
+        property: scope.property,
+    })
+}
+
+/// What the entries of a map are expanded with, where no step on the way to them makes a context: None where one may. It takes no memory.
+pub fn lent_scope<'s>(scope: &Scope<'s>, members: &Members) -> Option<MapScope<'s>>
+    ensures { (o : OptionsData) → IfSome result (λ m. contexts.entered o members.now (scope_view scope.now) ≡ Ok (map_scope_view m)) }
+{
+    if leaves(members, scope) {
+        return None;
+    }
+    if has_scoped(scope.definition()) {
+        return None;
+    }
+    let None = members.get("@context") else {
+        return None;
+    };
+    let json = json_unless_typed(scope.context, members)?;
+    Some(MapScope {
+        context: scope.context,
+        types: scope.context,
+        json,
         property: scope.property,
     })
 }

@@ -13,5 +13,5 @@ mod terms;
 mod typing;
 
 pub use active::Active;
-pub use entering::{Entered, enter, index_context, scalar_context};
+pub use entering::{Entered, enter, index_context, lent_scope, scalar_context};
 pub use memo::Memo;

@@ -23,7 +23,8 @@ pub(crate) fn have_scoped(types: &ActiveContext, items: &Trees) -> bool
     false
 }
 
-fn is_scoped(types: &ActiveContext, item: &Tree) -> bool
+/// Whether a value is a text whose definition has a scoped context.
+pub(crate) fn is_scoped(types: &ActiveContext, item: &Tree) -> bool
     ensures { result ≡ is_scoped (settings_view types.now) (view item.now) }
 {
     match item {

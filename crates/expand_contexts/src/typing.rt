@@ -1,22 +1,22 @@
 // Type-scoped contexts, and the input type.
-ghost use Rattle.std.specs.Prelude.{◌≡◌, ◌-◌, length, map, slice_get, Some};
-ghost use Rattle.std.specs.List.{filter_map};
+ghost use Rattle.std.specs.Prelude.{◌≡◌, ◌-◌, length, map, slice_get, IfSome, Ok, Some};
+ghost use Rattle.std.specs.List.{filter_map, list_any};
 ghost use Rattle.std.specs.Option.{option_map};
 ghost use Rattle.ctx_types.specs.ContextView.{context_view, settings_view};
 ghost use Rattle.ld_model.specs.Tree.{Pairs};
 ghost use Rattle.ld_tree.specs.View.{view};
 ghost use Rattle.expand_model.specs.Contexts as contexts;
-ghost use Rattle.expand_model.specs.Scope.{values_of};
+ghost use Rattle.expand_model.specs.Scope.{values_of, Options as OptionsData};
 ghost use Rattle.expand_types.specs.Answers.{Answers};
 ghost use Rattle.expand_types.specs.View.{options_view};
 ghost use Rattle.expand_contexts.specs.Memo.{IsTyped};
-ghost use Rattle.expand_contexts.specs.Types.{first_type, is_json_text, typing};
+ghost use Rattle.expand_contexts.specs.Types.{first_type, is_json_text, is_scoped, typing};
 ghost use Rattle.expand_contexts.specs.View.{made_view, typing_view};
 
 use crate::active::made_or;
 use crate::memo::Typed;
 use crate::scoped::by_scoped;
-use crate::terms::{have_scoped, sorted_terms};
+use crate::terms::{have_scoped, is_scoped, sorted_terms};
 use ctx_types::ActiveContext;
 use expand_types::{Options, PartStop, expands_to};
 use ld_tree::{Entries, Members, Tree, Trees};
@@ -55,6 +55,33 @@ pub(crate) fn typed<'x>(
     let made = typed_rest(alloc, options, types, entries, made)?;
     let json = is_json_now(types, &made, value, members);
     Ok(Typing { made, json })
+}
+
+/// Whether the input type of a map is `@json`, where its types make no context: None where they may. It takes no memory.
+pub(crate) fn json_unless_typed(types: &ActiveContext, members: &Members) -> Option<bool>
+    ensures { (o : OptionsData) → IfSome result (λ json. typing o (context_view types.now) members.now ≡ Ok (context_view types.now, json)) }
+{
+    let mut entries = members.iter();
+    let Some(value) = next_type(types, &mut entries) else {
+        return Some(false);
+    };
+    if has_scoped_type(types, value) {
+        return None;
+    }
+    let None = next_type(types, &mut entries) else {
+        return None;
+    };
+    Some(is_last_json(types, value))
+}
+
+/// Whether a type among the values of an entry has a scoped context.
+fn has_scoped_type(types: &ActiveContext, value: &Tree) -> bool
+    ensures { result ≡ list_any (is_scoped (settings_view types.now)) (values_of (view value.now)) }
+{
+    match value {
+        Tree::Items(items) => have_scoped(types, items),
+        other => is_scoped(types, other),
+    }
 }
 
 /// The value of the next entry whose key expands to `@type`. The entries up to it are taken off.

@@ -8,7 +8,8 @@ use Rattle.ld_tree.specs.declared.value.Tree.{Tree}
 use Rattle.ld_tree.specs.declared.value.Tree.TheVariants.{Map}
 use Rattle.ctx_types.specs.Context.{Text}
 use Rattle.expand_model.specs.Scope.{Options, MapScope}
-use Rattle.expand_model.specs.Rules.{At, Inside, ◌>>=◌, entered_at, finished_at, nestable, nest_in, nest_item_in}
+use Rattle.expand_model.specs.Contexts.{entered}
+use Rattle.expand_model.specs.Rules.{At, Inside, ◌>>=◌, entered_at, entered_within, finished_at, nestable, nest_in, nest_item_in}
 use Rattle.expand_model.specs.Over.{Asked, Outcome, here, entry_over, node, nest_walked, element_over, indexes_over, items_over, turn_over, entries_over, nested_over, nest_item_over, walk_over}
 
 -- What is left weighs no more.
@@ -42,6 +43,10 @@ module _ (o : Options) {S : Type 0} (ask : model.Trees → ℕ → At → S → 
 
   pub nest_item_map : (t : Tree) (ms : Pairs) (n : ℕ) (k : Text) (e : Inside) (r : Pairs) (s : S) → t ≡ Map ms → nest_item_over o ask settle (view t) n k e r s ≡ (here s (nestable ms k e) >>= (λ v. walk_over o ask settle (members_of ms) r (nest_item_in n k e) v.1))
   nest_item_map t ms n k e r s is = ap (λ x. nest_item_over o ask settle (view x) n k e r s) is ∙ ap (λ es. nest_walked o (walk_over o ask settle (members_of ms) r) es k e (nest_item_in n k e) s) (member_list-members_of ms)
+
+-- A map that makes no context.
+pub entered_lent : (o : Options) (es : Pairs) (a : At) (m : MapScope) → entered o es a.scope ≡ Ok m → entered_at o es a ≡ Ok (record { scope = m; place = a.place })
+entered_lent o es a m is = ap (entered_within a.place) is
 
 -- A map whose contexts are known.
 pub node_next : (o : Options) {S : Type 0} (walked : Inside → S → Outcome S Pairs) (es : Pairs) (a : At) (s : S) (m n : MapScope) → entered_at o es a ≡ Ok (record { scope = m; place = a.place }) → n ≡ m

@@ -1,5 +1,5 @@
 // The parts of expansion that expand nothing, each with the place of its error. A place is made only where there is an error.
-ghost use Rattle.std.specs.Prelude.{◌≡◌, Err};
+ghost use Rattle.std.specs.Prelude.{◌≡◌, [], Err};
 ghost use Rattle.ld_model.specs.Tree.{Pairs};
 ghost use Rattle.ld_tree.specs.View.{view};
 ghost use Rattle.ctx_types.specs.ContextView.{context_view};
@@ -88,6 +88,16 @@ fn scalar_in(
     match scalar_value(alloc, active.get(), property, value)? {
         None => Ok(Tree::Null),
         Some(value) => Ok(value),
+    }
+}
+
+/// An empty list with room for that many items where memory allows it.
+pub(crate) fn room_for(alloc: Global, items: usize) -> Trees
+    ensures { result ≡ [] }
+{
+    match Trees::with_capacity(alloc, items) {
+        Ok(trees) => trees,
+        Err(_) => Trees::new(alloc),
     }
 }
 

@@ -4,7 +4,8 @@ ghost use Rattle.std.specs.Prelude.{◌≡◌, ◌+◌, ◌<◌, ◌^◌, [], le
 ghost use Rattle.ld_model.specs.Tree.{members_of, trees_of};
 ghost use Rattle.ld_tree.specs.View.{trees_view, view};
 ghost use Rattle.expand_model.specs.Over as over;
-ghost use Rattle.expand_types.specs.View.{definition_in, options_view, scope_view};
+ghost use Rattle.expand_model.specs.Rules.{◌>>=◌, finished_at};
+ghost use Rattle.expand_types.specs.View.{definition_in, map_scope_view, options_view, scope_view};
 ghost use Rattle.expand_contexts.specs.Memo.{MayRecall};
 ghost use Rattle.tree_expand.specs.Answers.{Gives};
 ghost use Rattle.tree_expand.specs.View.{at_view, inside_view};
@@ -12,15 +13,15 @@ ghost use Rattle.tree_expand.specs.View.{at_view, inside_view};
 use crate::at::{At, Inside};
 use crate::parts::{
     added, begun, entered, finished, index_active, index_scope, indexed, nestable, not_nestable,
-    scalar, told,
+    room_for, scalar, told,
 };
 use crate::ranges::{Asked, Given, Ranges};
 use crate::settling::settle;
 use crate::stop::ExpandStop;
 use ctx_types::TermDef;
-use expand_contexts::Memo;
+use expand_contexts::{Memo, lent_scope};
 use expand_parts::{Draft, has_lists, join, splice};
-use expand_types::{Name, Options, Task, Trail, expands_to, name_of, task_of, under};
+use expand_types::{MapScope, Name, Options, Task, Trail, expands_to, name_of, task_of, under};
 use ld_tree::{Members, Tree, Trees};
 use std::alloc::Global;
 
@@ -85,7 +86,7 @@ pub(crate) fn items<R: Ranges>(
     ensures { Gives result (λ ts. ts) ranges.new
         (over.items_over (options_view options.now) R.asked R.settles (trees_of (trees_view items.now)) 0 first (at_view at.now) [] ranges.old) }
 {
-    let mut out = Trees::new(alloc);
+    let mut out = room_for(alloc, items.len());
     let mut more = 0usize;
     let mut memo = Memo::new();
     for (place, item) in items.iter().enumerate() {
@@ -219,9 +220,30 @@ fn node<'x, R: Ranges>(
     ensures value { Gives result view ranges.new
         (over.node (options_view options.now) (over.walk_over (options_view options.now) R.asked R.settles (members_of members.now) []) members.now (at_view at.now) ranges.old) }
 {
+    if let Some(scope) = lent_scope(&at.scope, members) {
+        return mapped(alloc, options, ranges, at, &scope, members);
+    }
     let entered = entered(alloc, options, at, memo, members)?;
+    let scope = entered.scope();
+    mapped(alloc, options, ranges, at, &scope, members)
+}
+
+/// Expands a map whose contexts are known.
+#[cycle(expansion)]
+fn mapped<'x, R: Ranges>(
+    alloc: Global,
+    options: &Options<'_>,
+    ranges: &mut R,
+    at: &At<'_>,
+    scope: &MapScope<'_>,
+    members: &'x Members,
+) -> Result<Tree, ExpandStop>
+    ensures { Gives result view ranges.new
+        (over.walk_over (options_view options.now) R.asked R.settles (members_of members.now) [] (record { scope = map_scope_view scope.now; place = (at_view at.now).place }) ranges.old
+        >>= (λ v. over.here v.1 (finished_at (at_view at.now) v.0))) }
+{
     let inside = Inside {
-        scope: entered.scope(),
+        scope: *scope,
         trail: at.trail,
     };
     let made = walk(

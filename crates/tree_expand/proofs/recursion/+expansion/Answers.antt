@@ -1,15 +1,15 @@
-use Rattle.std.proofs.Common.{rules, ◌≡◌, ◌+◌, Err, sym, ap, ◌∙◌, arith}
+use Rattle.std.proofs.Common.{rules, ◌≡◌, ◌+◌, [], Err, refl, sym, ap, ◌∙◌, arith}
 use Rattle.std.proofs.lemmas.Grind.{common_steps}
 use Rattle.ld_model.specs.Tree.{members_of, trees_of}
 use Rattle.ld_tree.specs.View.{view, trees_view}
 use Rattle.ld_tree.proofs.ViewLemmas.{item_weighs}
 use Rattle.expand_model.specs.Rules.{◌>>=◌, finished_at, nest_in, nest_item_in}
-use Rattle.expand_model.specs.Over.{here, node, items_over, entries_over, walk_over}
+use Rattle.expand_model.specs.Over.{here, items_over, entries_over, walk_over}
 use Rattle.expand_types.specs.View.{map_scope_view, options_view, scope_view}
 use Rattle.expand_contexts.specs.View.{entered_view}
 use Rattle.tree_expand.specs.View.{at_view, inside_view}
 use Rattle.tree_expand.proofs.Steps.{gives_of, gives_here, gives_passed, gives_refused}
-use Rattle.tree_expand.proofs.Walks.{lighter_next, items_next, entries_next, element_map, nested_map, nest_item_map, node_next}
+use Rattle.tree_expand.proofs.Walks.{lighter_next, items_next, entries_next, element_map, nested_map, nest_item_map, node_next, entered_lent}
 use Rattle.tree_expand.proofs.recursion.+expansion.Goals as goal
 
 pub element-remembered-requires : goal.element-remembered-requires
@@ -21,7 +21,7 @@ pub items-loop-place-init : goal.items-loop-place-init
 items-loop-place-init g t c =
     record {
       recalls = c.new-memo.ensures (options_view c.args.options.now) (scope_view c.args.at.now.scope);
-      left = ap (λ n. items_over (options_view c.args.options.now) g.R.Ranges.asked g.R.Ranges.settles (trees_of (trees_view c.args.items.now)) 0 n (at_view c.args.at.now) c.new-out.result c.args.ranges.now) (omega arith) ∙ ap (λ out. items_over (options_view c.args.options.now) g.R.Ranges.asked g.R.Ranges.settles (trees_of (trees_view c.args.items.now)) 0 c.args.first (at_view c.args.at.now) out c.args.ranges.now) c.new-out.ensures;
+      left = ap (λ n. items_over (options_view c.args.options.now) g.R.Ranges.asked g.R.Ranges.settles (trees_of (trees_view c.args.items.now)) 0 n (at_view c.args.at.now) c.room_for-out.result c.args.ranges.now) (omega arith) ∙ ap (λ out. items_over (options_view c.args.options.now) g.R.Ranges.asked g.R.Ranges.settles (trees_of (trees_view c.args.items.now)) 0 c.args.first (at_view c.args.at.now) out c.args.ranges.now) c.room_for-out.ensures;
     }
 
 pub items-turn-requires : goal.items-turn-requires
@@ -87,21 +87,38 @@ nest_item-returns-in_ok-nestable-in-Map g t c =
     ∙ ap (λ d. here c.args.ranges.now d >>= (λ v. walk_over (options_view c.args.options.now) g.R.Ranges.asked g.R.Ranges.settles (members_of c.in-Map.members) c.args.made (nest_item_in c.args.number c.args.key.now (inside_view c.args.inside.now)) v.1)) c.in_ok-nestable-in-Map.ensures)
     c.walk.ensures
 
-pub node-returns-in_err-made-clause-value : goal.node-returns-in_err-made-clause-value
-node-returns-in_err-made-clause-value g t c =
-    let passed : c.from_residual-in_err-made.result ≡ Err c.in_err-made.field-0.0 = grind (arith, common_steps) in
-    gives_of c.from_residual-in_err-made.result view c.walk.new.ranges
-    (ap (λ r. node (options_view c.args.options.now) (walk_over (options_view c.args.options.now) g.R.Ranges.asked g.R.Ranges.settles (members_of c.args.members.now) r) c.args.members.now (at_view c.args.at.now) c.args.ranges.now) (sym c.new.ensures)
-    ∙ node_next (options_view c.args.options.now) (walk_over (options_view c.args.options.now) g.R.Ranges.asked g.R.Ranges.settles (members_of c.args.members.now) c.new.result) c.args.members.now (at_view c.args.at.now) c.args.ranges.now (entered_view c.in_ok-entered.entered) (map_scope_view c.scope.result) c.in_ok-entered.ensures.entered c.scope.ensures)
-    (gives_passed c.from_residual-in_err-made.result c.in_err-made.field-0.0 view c.walk.new.ranges _ _ passed c.in_err-made.ensures)
+pub node-returns-in-Some-clause-value : goal.node-returns-in-Some-clause-value
+node-returns-in-Some-clause-value g t c =
+    let o = options_view c.args.options.now in
+    let a = at_view c.args.at.now in
+    gives_of c.mapped.result view c.mapped.new.ranges
+    (node_next o (walk_over o g.R.Ranges.asked g.R.Ranges.settles (members_of c.args.members.now) []) c.args.members.now a c.args.ranges.now (map_scope_view c.in-Some.scope) (map_scope_view c.in-Some.scope) (entered_lent o c.args.members.now a (map_scope_view c.in-Some.scope) (c.in-Some.ensures o)) refl)
+    c.mapped.ensures
 
 pub node-returns-clause-value : goal.node-returns-clause-value
 node-returns-clause-value g t c =
+    let o = options_view c.args.options.now in
+    gives_of c.mapped.result view c.mapped.new.ranges
+    (node_next o (walk_over o g.R.Ranges.asked g.R.Ranges.settles (members_of c.args.members.now) []) c.args.members.now (at_view c.args.at.now) c.args.ranges.now (entered_view c.in_ok-entered.entered) (map_scope_view c.scope.result) c.in_ok-entered.ensures.entered c.scope.ensures)
+    c.mapped.ensures
+
+pub mapped-returns-in_err-made : goal.mapped-returns-in_err-made
+mapped-returns-in_err-made g t c =
+    let o = options_view c.args.options.now in
+    let a = at_view c.args.at.now in
+    let passed : c.from_residual.result ≡ Err c.in_err-made.field-0.0 = grind (arith, common_steps) in
+    gives_of c.from_residual.result view c.walk.new.ranges
+    (ap (λ r. walk_over o g.R.Ranges.asked g.R.Ranges.settles (members_of c.args.members.now) r (record { scope = map_scope_view c.args.scope.now; place = a.place }) c.args.ranges.now >>= (λ v. here v.1 (finished_at a v.0))) (sym c.new.ensures))
+    (gives_passed c.from_residual.result c.in_err-made.field-0.0 view c.walk.new.ranges _ _ passed c.in_err-made.ensures)
+
+pub mapped-returns : goal.mapped-returns
+mapped-returns g t c =
+    let o = options_view c.args.options.now in
+    let a = at_view c.args.at.now in
     gives_of c.finished.result view c.walk.new.ranges
-    (ap (λ r. node (options_view c.args.options.now) (walk_over (options_view c.args.options.now) g.R.Ranges.asked g.R.Ranges.settles (members_of c.args.members.now) r) c.args.members.now (at_view c.args.at.now) c.args.ranges.now) (sym c.new.ensures)
-    ∙ node_next (options_view c.args.options.now) (walk_over (options_view c.args.options.now) g.R.Ranges.asked g.R.Ranges.settles (members_of c.args.members.now) c.new.result) c.args.members.now (at_view c.args.at.now) c.args.ranges.now (entered_view c.in_ok-entered.entered) (map_scope_view c.scope.result) c.in_ok-entered.ensures.entered c.scope.ensures
-    ∙ ap (λ d. d >>= (λ v. here v.1 (finished_at (at_view c.args.at.now) v.0))) c.in_ok-made.ensures)
-    (gives_here c.finished.result view c.walk.new.ranges (finished_at (at_view c.args.at.now) c.in_ok-made.made) c.finished.ensures)
+    (ap (λ r. walk_over o g.R.Ranges.asked g.R.Ranges.settles (members_of c.args.members.now) r (record { scope = map_scope_view c.args.scope.now; place = a.place }) c.args.ranges.now >>= (λ v. here v.1 (finished_at a v.0))) (sym c.new.ensures)
+    ∙ ap (λ d. d >>= (λ v. here v.1 (finished_at a v.0))) c.in_ok-made.ensures)
+    (gives_here c.finished.result view c.walk.new.ranges (finished_at a c.in_ok-made.made) c.finished.ensures)
 
 pub remembered-returns-in-Map-clause-value : goal.remembered-returns-in-Map-clause-value
 remembered-returns-in-Map-clause-value g t c =

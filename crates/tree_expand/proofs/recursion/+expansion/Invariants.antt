@@ -27,7 +27,10 @@ abbrev pub decreases-tried : goal.decreases-tried
 decreases-tried g l = 10 * weight (view l.item.now) + 2
 
 abbrev pub decreases-node : goal.decreases-node
-decreases-node g l = 10 * members_weight (members_of l.members.now) + 8
+decreases-node g l = 10 * members_weight (members_of l.members.now) + 9
+
+abbrev pub decreases-mapped : goal.decreases-mapped
+decreases-mapped g l = 10 * members_weight (members_of l.members.now) + 8
 
 abbrev pub decreases-walk : goal.decreases-walk
 decreases-walk g l = 10 * members_weight (members_of l.members.now) + 7
