@@ -238,7 +238,8 @@ fn by_base(
 pub fn joined(alloc: Global, front: &str, rest: &str) -> Result<Text, AllocError>
     ensures { IfOk result (λ t. t ≡ front.now ++ rest.now) }
 {
-    let mut string = String::from_str(alloc, front)?;
+    let mut string = String::with_capacity(alloc, front.len() + rest.len())?;
+    string.push_str(front)?;
     string.push_str(rest)?;
     Ok(Text::from_string(string)?)
 }
