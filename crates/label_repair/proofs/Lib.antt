@@ -4,5 +4,4 @@ pub mod Renamed
 pub mod OwnConflicts
 pub mod Parts
 pub mod Lists
-pub mod Placed
 pub mod Finished

@@ -1,4 +1,4 @@
 pub mod Renaming
-pub mod Placed
 pub mod Finished
+pub mod Made
 pub mod Shards

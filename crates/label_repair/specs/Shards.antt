@@ -27,19 +27,16 @@ abbrev pub conflict_in : Option PlacedConflict → Option model.PlacedConflict
 conflict_in (Some c) = Some (placed_view c)
 conflict_in None = None
 
--- The ids of a graph's nodes with their JSON, and those of graphs.
+-- The ids of a graph's nodes with their JSON, in any order.
 abbrev pub pairs_view : Vec (List ℕ × Tree) → Pairs
 pairs_view v = members_view v.items
-
-abbrev pub graphs_view : List (List ℕ × Vec (List ℕ × Tree)) → MapOf Pairs
-graphs_view gs = shown pairs_view gs
 
 -- What graphs have once all their pairs are put at their ids.
 abbrev pub built_view : List (List ℕ × Vec (List ℕ × Tree)) → MapOf Pairs
 built_view gs = shown (λ v. built (pairs_view v)) gs
 
 abbrev pub shard_view : NodeShard → FinishedShard
-shard_view s = record { graphs = graphs_view s.graphs.items; conflict = conflict_in s.conflict }
+shard_view s = record { graphs = built_view s.graphs.entries; conflict = conflict_in s.conflict }
 
 abbrev pub shards_view : List NodeShard → List FinishedShard
 shards_view ss = map shard_view ss

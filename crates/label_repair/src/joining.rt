@@ -5,16 +5,14 @@ ghost use Rattle.ld_tree.specs.Built.{put_all, built};
 ghost use Rattle.sum_model.specs.Conflicts.{is_before};
 ghost use Rattle.shard_model.specs.Joined.{earlier_of};
 ghost use Rattle.label_repair.specs.Finished.{graph_put, pairs_put, default_pairs, graph_trees, outcome_of, finished_joined};
-ghost use Rattle.label_repair.specs.Shards.{place_of, conflict_in, pairs_view, graphs_view, built_view, shards_view, StopsJoined};
+ghost use Rattle.label_repair.specs.Shards.{place_of, conflict_in, pairs_view, built_view, shards_view, StopsJoined};
 
-use crate::shard::{NodeShard, Pairs, PlacedConflict};
+use crate::finishing::put_graph;
+use crate::shard::{NodeShard, PairGraphs, Pairs, PlacedConflict};
 use ld_tree::{Members, Text, Tree};
 use node_types::{MapStop, NodeMap};
 use std::alloc::{AllocError, Global};
 use std::collections::BTreeMap;
-
-/// The nodes of graphs, one behind another as they came, by the names of the graphs.
-type PairGraphs = BTreeMap<Text, Pairs>;
 
 /// The node map whose shards these are: each graph has the nodes that any shard has in it, and the default graph is there in any case. No node
 /// of a graph should be in two of them; else the later shard's is taken. It takes n log n steps at most, in however many shards the nodes are.
@@ -54,7 +52,7 @@ fn outcome(
     }
 }
 
-/// Each graph as a map of its nodes. Where the ids of a graph ascend, as in one shard, they are left as they are, and else sorted once.
+/// Each graph as a map of its nodes. Where the ids of a graph ascend they are left as they are, and else sorted once.
 fn maps_of(alloc: Global, graphs: PairGraphs) -> Result<Members, AllocError>
     ensures { IfOk result (λ ms. ms ≡ graph_trees (built_view graphs.entries)) }
 {
@@ -98,8 +96,8 @@ fn comes_before(a: &PlacedConflict, b: &PlacedConflict) -> bool
     a.chunk < b.chunk || a.chunk == b.chunk && a.op < b.op
 }
 
-fn add_graphs(graphs: &mut PairGraphs, more: Vec<(Text, Pairs)>) -> Result<(), AllocError>
-    ensures { OnOk result (built_view graphs.new.entries ≡ pairs_put (graphs_view more.items) (built_view graphs.old.entries)) }
+fn add_graphs(graphs: &mut PairGraphs, more: PairGraphs) -> Result<(), AllocError>
+    ensures { OnOk result (built_view graphs.new.entries ≡ pairs_put (built_view more.entries) (built_view graphs.old.entries)) }
 {
     for (name, pairs) in more {
         add_graph(graphs, name, pairs)?;
@@ -108,7 +106,7 @@ fn add_graphs(graphs: &mut PairGraphs, more: Vec<(Text, Pairs)>) -> Result<(), A
 }
 
 fn add_graph(graphs: &mut PairGraphs, name: Text, more: Pairs) -> Result<(), AllocError>
-    ensures { OnOk result (built_view graphs.new.entries ≡ graph_put name (pairs_view more) (built_view graphs.old.entries)) }
+    ensures { OnOk result (built_view graphs.new.entries ≡ graph_put name (built (pairs_view more)) (built_view graphs.old.entries)) }
 {
     if let Some(pairs) = graphs.get_mut(&name) {
         add_nodes(pairs, more)?;
@@ -120,7 +118,7 @@ fn add_graph(graphs: &mut PairGraphs, name: Text, more: Pairs) -> Result<(), All
 
 /// Moves nodes behind those of a graph. Where there are none yet, they are taken as they are.
 fn add_nodes(pairs: &mut Pairs, more: Pairs) -> Result<(), AllocError>
-    ensures { OnOk result (built (pairs_view pairs.new) ≡ put_all (pairs_view more) (built (pairs_view pairs.old))) }
+    ensures { OnOk result (built (pairs_view pairs.new) ≡ put_all (built (pairs_view more)) (built (pairs_view pairs.old))) }
 {
     if pairs.is_empty() {
         *pairs = more;
@@ -129,13 +127,4 @@ fn add_nodes(pairs: &mut Pairs, more: Pairs) -> Result<(), AllocError>
     let mut more = more;
     pairs.append(&mut more)?;
     Ok(())
-}
-
-fn put_graph(graphs: &mut PairGraphs, name: Text, pairs: Pairs) -> Result<(), AllocError>
-    ensures { OnOk result (built_view graphs.new.entries ≡ with_at name (built (pairs_view pairs)) (built_view graphs.old.entries)) }
-{
-    match graphs.insert(name, pairs) {
-        Ok(_) => Ok(()),
-        Err(_) => Err(AllocError),
-    }
 }

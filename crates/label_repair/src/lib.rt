@@ -2,7 +2,7 @@
 //! map that comes of the chunks' sums under these labels.
 //!
 //! [`number_labels`] numbers the labels. [`rename`] makes of a run, which is what all chunks say in a shard, the shard of the node map, whose
-//! nodes are finished in the order of their ids, and [`join_shards`] puts the shards together. Contracts see [`Labels`] as the names that have labels, in the order of first use; the number of
+//! nodes are finished, and [`join_shards`] puts the shards together and sorts the nodes by their ids. Contracts see [`Labels`] as the names that have labels, in the order of first use; the number of
 //! a name is its place among them.
 #![tactic(auto)]
 
@@ -10,7 +10,6 @@ mod finishing;
 mod joining;
 mod labels;
 mod numbering;
-mod placing;
 mod renaming;
 mod runs;
 mod shard;

@@ -5,24 +5,20 @@ ghost use Rattle.op_types.specs.View.{name_view};
 ghost use Rattle.sum_model.specs.Conflicts as model;
 ghost use Rattle.summary_merge.specs.Conflict.{conflict_view};
 ghost use Rattle.shard_model.specs.Own.{SumHasOwn};
-ghost use Rattle.shard_model.specs.Renamed.{renamed, conflict_renamed, shard_renamed};
-ghost use Rattle.subtree_summary.specs.Parts.{part_view};
-ghost use Rattle.label_repair.specs.Finished.{graphs_finished, finished};
-ghost use Rattle.label_repair.specs.Shards.{conflict_in, graphs_view, shard_view};
+ghost use Rattle.shard_model.specs.Renamed.{conflict_renamed, shard_renamed};
+ghost use Rattle.label_repair.specs.Finished.{finished};
+ghost use Rattle.label_repair.specs.Shards.{conflict_in, shard_view};
 
-use crate::finishing::finish_graphs;
+use crate::finishing::finish_part;
 use crate::labels::Labels;
-use crate::placing::place_part;
 use crate::renaming::label;
-use crate::shard::{NodeShard, Pairs, PlacedConflict};
-use ld_tree::Text;
+use crate::shard::{NodeShard, PlacedConflict};
 use node_types::Conflict;
 use std::alloc::{AllocError, Global};
-use subtree_summary::Part;
 use summary_merge::{ConflictAt, Run, first_conflict};
 
-/// The shard of the node map that a run stands for once its names are replaced by labels (JSON-LD 1.1 API, section 7.4), its nodes finished
-/// and in the order of their ids, with the first conflict in it. Each name of the run that needs a label has one among `labels`, no IRI looks like a label, each value is a value
+/// The shard of the node map that a run stands for once its names are replaced by labels (JSON-LD 1.1 API, section 7.4), its nodes finished,
+/// with the first conflict in it. Each name of the run that needs a label has one among `labels`, no IRI looks like a label, each value is a value
 /// object, and no property is a keyword: so it is in runs of the operations of a document's chunks. What stands equal under names is equal
 /// under labels, so nothing more is left out than repeats.
 ///
@@ -34,23 +30,9 @@ pub fn rename(alloc: Global, run: Run, labels: &Labels) -> Result<NodeShard, All
     ensures { IfOk result (λ s. shard_view s ≡ finished (shard_renamed labels.now run.sum)) }
 {
     let conflict = conflict_of(alloc, &run, labels)?;
-    let graphs = graphs_of_part(alloc, run.into_part(), labels)?;
-    Ok(NodeShard { graphs, conflict })
-}
-
-/// The finished nodes of each graph that a part stands for under labels.
-fn graphs_of_part(
-    alloc: Global,
-    part: Part,
-    labels: &Labels,
-) -> Result<Vec<(Text, Pairs)>, AllocError>
-    requires { SumHasOwn labels.now (part_view part) }
-    ensures { IfOk result (λ gs. graphs_view gs.items ≡ graphs_finished (renamed labels.now (part_view part))) }
-{
     labels.are_few();
-    let placed = place_part(alloc, part, labels)?;
-    let graphs = finish_graphs(alloc, labels, placed)?;
-    Ok(graphs)
+    let graphs = finish_part(alloc, run.into_part(), labels)?;
+    Ok(NodeShard { graphs, conflict })
 }
 
 /// The first conflict in a run, its node by its label.

@@ -1,6 +1,7 @@
 // Shards of a node map.
 use ld_tree::{Text, Tree};
 use node_types::Conflict;
+use std::collections::BTreeMap;
 
 /// The conflict of two indexes of a node, and where it is.
 #[derive(Drop)]
@@ -13,13 +14,16 @@ pub struct PlacedConflict {
     pub conflict: Conflict,
 }
 
-/// The nodes of a graph, each by its id as JSON.
+/// The nodes of a graph, each by its id as JSON, in any order.
 pub(crate) type Pairs = Vec<(Text, Tree)>;
 
-/// A shard of a node map: the graphs, in the order of their names, each with the nodes that fall in the shard, in the order of their ids, and
-/// the first conflict in them. The nodes are finished.
+/// The nodes of graphs, by the labels of the graphs.
+pub(crate) type PairGraphs = BTreeMap<Text, Pairs>;
+
+/// A shard of a node map: the graphs, each with the nodes that fall in the shard, and the first conflict in them. The nodes are finished. They
+/// stand as they were finished: whoever puts shards together sorts them by their ids, once.
 #[derive(Drop)]
 pub struct NodeShard {
-    pub(crate) graphs: Vec<(Text, Pairs)>,
+    pub(crate) graphs: PairGraphs,
     pub(crate) conflict: Option<PlacedConflict>,
 }

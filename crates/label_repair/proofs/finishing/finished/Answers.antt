@@ -1,7 +1,7 @@
 use Rattle.std.proofs.Common.{ap, ◌∙◌}
 use Rattle.ld_model.specs.Tree.{Pairs, object, members_of}
 use Rattle.node_model.specs.AsTrees.{node_members}
-use Rattle.label_repair.proofs.finishing.finish_node.Goals as goal
+use Rattle.label_repair.proofs.finishing.finished.Goals as goal
 
 pub returns : goal.returns
 returns c =
