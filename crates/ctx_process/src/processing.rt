@@ -58,7 +58,7 @@ pub struct Flags {
 /// - `Refused` exactly where the definition ends in that error, but for want of memory. The 33rd remote context of a chain is
 ///   `context overflow`, the 129th scoped context under way is `invalid scoped context`, and an IRI without a scheme, or one
 ///   that the store doesn't have or has as unreadable, is `loading remote context failed`.
-/// - `OutOfMemory` where memory is refused, and where the 1,601st call would be under way: such a context has an answer by the
+/// - `OutOfMemory` where memory is refused, and where the 1,251st call would be under way: such a context has an answer by the
 ///   definition, and is counted as one for which there is no memory.
 #[tactic(auto, unfolding(ctx_model::specs::Process::process))]
 pub fn process(

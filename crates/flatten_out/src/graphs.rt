@@ -55,7 +55,7 @@ fn graph_turn(alloc: Global, nodes: &mut Nodes, name: Text, graph: Tree) -> Resu
     Ok(())
 }
 
-/// A graph's nodes go under `@graph` at the node of its name (section 7.1, step 5).
+/// A graph's nodes go under `@graph` at the node of its name (section 7.1, step 4).
 fn graph_into(alloc: Global, nodes: &mut Nodes, name: Text, graph: Tree) -> Result<(), AllocError>
     ensures { OnOk result (members_view nodes.new.entries ≡ graph_into (name, view graph) (members_view nodes.old.entries)) }
 {

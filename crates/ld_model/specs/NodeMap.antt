@@ -42,7 +42,7 @@ abbrev pub entries_of : Option Tree → List Tree
 entries_of (Some (array ts)) = tree_list ts
 entries_of _ = []
 
--- The list with this entry at its end, unless an equal one is there (steps 4.2 and 6.6.3).
+-- The list with this entry at its end, unless an equal one is there (steps 4.1.2 and 6.6.2.2).
 unfoldable pub added : Tree → List Tree → List Tree
 added t ts = if list_any (same_tree t) ts then ts else (ts ++ t ∷ [])
 
@@ -62,8 +62,8 @@ target _ = None
 abbrev pub reference : List ℕ → Tree
 reference id = object (member id_key (text id) no_members)
 
--- An entry of a property: a value is added to the node's property unless an equal one is there (step 4.2); a reference makes
--- its node, and is added unless it is there (steps 6.3 and 6.6.3).
+-- An entry of a property: a value is added to the node's property unless an equal one is there (step 4.1.2); a reference makes
+-- its node, and is added unless it is there (steps 6.3 and 6.6.2.2).
 abbrev pub value_into : List ℕ → List ℕ → Tree → State → State
 value_into id property entry s = record { nodes = changed id property (added entry) s.nodes; labels = s.labels }
 

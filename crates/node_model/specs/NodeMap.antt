@@ -70,7 +70,7 @@ is_list_object (object (member k (array ts) no_members)) = bytes_eq k list_key
 is_list_object _ = false
 
 -- The entries of a property with this one at their end: a list in any case, a value or a reference unless an equal one is there
--- (steps 4.2, 5.4 and 6.6.3).
+-- (steps 4.1.2, 5.3 and 6.6.2.2).
 abbrev pub told : Tree → List Tree → List Tree
 told e es = if is_list_object e then (es ++ e ∷ []) else added e es
 

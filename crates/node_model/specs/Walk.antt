@@ -26,9 +26,9 @@ pub record Steps (S N E : Type 0) : Type 0 where
   pub value : Tree → E
   pub reference : N → E
   pub list : List E → E
-  -- in this graph, of this node, under this property: an entry, unless an equal one is there (steps 4.2, 6.5.2 and 6.6.3)
+  -- in this graph, of this node, under this property: an entry, unless an equal one is there (steps 4.1.2, 6.5.2 and 6.6.2.2)
   pub add : N → N → N → E → S → S
-  -- likewise a list, whatever is there (step 5.4)
+  -- likewise a list, whatever is there (step 5.3)
   pub append : N → N → N → List E → S → S
   -- in this graph, of this node: a type, unless it is there (step 6.7), and an index (step 6.8)
   pub type_ : N → N → N → S → S

@@ -181,7 +181,7 @@ pub(crate) fn add_value<'a, G: Gather>(
     }
 }
 
-/// A list, where it goes (step 5.4).
+/// A list, where it goes (steps 5.3 and 5.4).
 pub(crate) fn add_list<'a, G: Gather>(
     alloc: Global,
     map: &mut G,

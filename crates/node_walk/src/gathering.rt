@@ -94,7 +94,7 @@ pub trait Gather {
     fn graph(&mut self, alloc: Global, graph: &Self::Name) -> Result<(), AllocError>
         ensures { OnOk result (state self.new ≡ steps.graph (name graph.now) (state self.old)) };
 
-    /// A value object under a property of a node (step 4.2).
+    /// A value object under a property of a node (step 4.1.2).
     fn add_value(
         &mut self,
         alloc: Global,
@@ -105,7 +105,7 @@ pub trait Gather {
     ) -> Result<(), AllocError>
         ensures { OnOk result (state self.new ≡ steps.add (name graph.now) (name node.now) (name property.now) (steps.value (view value)) (state self.old)) };
 
-    /// A reference under a property of a node (steps 6.5.2 and 6.6.3).
+    /// A reference under a property of a node (steps 6.5.2 and 6.6.2.2).
     fn add_reference(
         &mut self,
         alloc: Global,
@@ -116,7 +116,7 @@ pub trait Gather {
     ) -> Result<(), AllocError>
         ensures { OnOk result (state self.new ≡ steps.add (name graph.now) (name node.now) (name property.now) (steps.reference (name target.now)) (state self.old)) };
 
-    /// A list under a property of a node (step 5.4).
+    /// A list under a property of a node (step 5.3).
     fn append(
         &mut self,
         alloc: Global,

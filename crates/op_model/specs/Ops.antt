@@ -35,7 +35,7 @@ pub data Op : Type 0 where
   ensure_graph : (graph : Name) → Op
   ensure_node : (graph node : Name) → Op
   ensure_property : (graph node property : Name) → Op
-  -- a value or a reference, unless an equal one is there (steps 4.2, 6.5.2 and 6.6.3), and a list, whatever is there (step 5.4)
+  -- a value or a reference, unless an equal one is there (steps 4.1.2, 6.5.2 and 6.6.2.2), and a list, whatever is there (step 5.3)
   add_entry : (graph node property : Name) (entry : Entry) → Op
   append_list : (graph node property : Name) (list : Entries) → Op
   -- a type, unless it is there (step 6.7), and an index (step 6.8)

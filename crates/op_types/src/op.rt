@@ -39,7 +39,7 @@ pub enum Op {
         /// The property.
         property: Name,
     },
-    /// A value or a reference under a property of a node, unless an equal one is there (steps 4.2, 6.5.2 and 6.6.3).
+    /// A value or a reference under a property of a node, unless an equal one is there (steps 4.1.2, 6.5.2 and 6.6.2.2).
     AddEntry {
         /// The graph.
         graph: Name,
@@ -50,7 +50,7 @@ pub enum Op {
         /// The value or the reference.
         entry: Entry,
     },
-    /// A list under a property of a node, whatever is there (step 5.4).
+    /// A list under a property of a node, whatever is there (step 5.3).
     AppendList {
         /// The graph.
         graph: Name,

@@ -159,7 +159,7 @@ impl Sums {
         Ok(())
     }
 
-    /// Notes a value or a reference of a property (steps 4.2, 6.5.2 and 6.6.3).
+    /// Notes a value or a reference of a property (steps 4.1.2, 6.5.2 and 6.6.2.2).
     pub fn add_entry(
         &mut self,
         alloc: Global,
@@ -178,7 +178,7 @@ impl Sums {
         Ok(())
     }
 
-    /// Notes a list of a property (step 5.4).
+    /// Notes a list of a property (step 5.3).
     pub fn append_list(
         &mut self,
         alloc: Global,
