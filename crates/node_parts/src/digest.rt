@@ -1,17 +1,18 @@
 // What keys the hashes of a document's names.
 use ld_tree::{Members, Text, Tree, Trees};
-use sha2::{Digest, Sha256};
+use sha2::{Digest, Sha512};
 
-/// The SHA-256 of all that may be looked up in these items: the texts under `@id`, and the labels of blank nodes wherever they stand. Behind
+/// The SHA-512 of all that may be looked up in these items: the texts under `@id`, and the labels of blank nodes wherever they stand. Behind
 /// each comes a byte that no text has, so that other names are other bytes. Nobody can choose names for what the digest of them will be.
-pub(crate) fn digest_of(items: &Trees) -> [u8; 32] {
-    let mut digest = Sha256::new();
+/// On 64 bits SHA-512 takes a third less for a byte than SHA-256.
+pub(crate) fn digest_of(items: &Trees) -> [u8; 64] {
+    let mut digest = Sha512::new();
     note_items(&mut digest, items);
     digest.finalize()
 }
 
 #[cycle(names)]
-fn note_tree(digest: &mut Sha256, tree: &Tree) {
+fn note_tree(digest: &mut Sha512, tree: &Tree) {
     match tree {
         Tree::Str(text) => note_label(digest, text),
         Tree::Items(items) => note_items(digest, items),
@@ -21,21 +22,21 @@ fn note_tree(digest: &mut Sha256, tree: &Tree) {
 }
 
 #[cycle(names)]
-fn note_items(digest: &mut Sha256, items: &Trees) {
+fn note_items(digest: &mut Sha512, items: &Trees) {
     for item in items {
         note_tree(digest, item);
     }
 }
 
 #[cycle(names)]
-fn note_members(digest: &mut Sha256, members: &Members) {
+fn note_members(digest: &mut Sha512, members: &Members) {
     for (key, value) in members {
         note_member(digest, key, value);
     }
 }
 
 #[cycle(names)]
-fn note_member(digest: &mut Sha256, key: &Text, value: &Tree) {
+fn note_member(digest: &mut Sha512, key: &Text, value: &Tree) {
     note_label(digest, key);
     match value {
         Tree::Str(text) => note_text(digest, key, text),
@@ -44,7 +45,7 @@ fn note_member(digest: &mut Sha256, key: &Text, value: &Tree) {
 }
 
 /// Notes a text that stands under this key.
-fn note_text(digest: &mut Sha256, key: &Text, text: &Text) {
+fn note_text(digest: &mut Sha512, key: &Text, text: &Text) {
     if key.as_str() == "@id" {
         note_name(digest, text);
     } else {
@@ -53,13 +54,13 @@ fn note_text(digest: &mut Sha256, key: &Text, text: &Text) {
 }
 
 /// Notes a text if it is the label of a blank node.
-fn note_label(digest: &mut Sha256, text: &Text) {
+fn note_label(digest: &mut Sha512, text: &Text) {
     if text.is_blank() {
         note_name(digest, text);
     }
 }
 
-fn note_name(digest: &mut Sha256, name: &Text) {
+fn note_name(digest: &mut Sha512, name: &Text) {
     digest.update(name.as_str().as_bytes());
     digest.update(b"\xff");
 }
