@@ -1,8 +1,7 @@
 -- A cursor over a legal and faithful plan answers what is known of its pieces.
-use Rattle.std.proofs.Common.{ℕ, suc, ◌≡◌, ◌+◌, List, [], ◌∷◌, ◌++◌, Bool, true, false, Option, None, Some, Result, Ok, Err, map, length, refl, sym, ap, ◌∙◌, subst, arith}
+use Rattle.std.proofs.Common.{ℕ, suc, ◌≡◌, ◌+◌, List, [], ◌∷◌, ◌++◌, true, false, Option, None, Some, Result, Ok, Err, length, refl, sym, ap, ◌∙◌, subst, arith}
 use Rattle.std.specs.Prelude.{if◌then◌else◌, slice_get}
 use Rattle.std.specs.Option.{option_map}
-use Rattle.std.specs.List.{AllByRecursion}
 use Rattle.std.proofs.lemmas.Option.{slice_get-map}
 use Rattle.ld_json.specs.declared.location.Step.{Step}
 use Rattle.ld_model.specs.Tree.{Tree, Trees}
@@ -11,13 +10,13 @@ use Rattle.expand_model.specs.Rules.{At}
 use Rattle.expand_model.specs.Expand.{document}
 use Rattle.expand_model.specs.Over.{Outcome, document_over}
 use Rattle.range_laws.specs.Right.{outcome, keeps_each}
-use Rattle.cut_model.specs.Pieces.{Piece, count_behind, begins_at, ranges_of}
+use Rattle.cut_model.specs.Pieces.{Piece, begins_at, ranges_of}
 use Rattle.cut_model.specs.Legal.{IsLegal}
 use Rattle.cut_model.specs.Reached.{piece_of, noted, IsFaithful}
 use Rattle.cut_model.specs.Answers.{RangeAnswer, answer_of, IsAnswered}
 use Rattle.cut_model.specs.Grafting as model
 use Rattle.cut_model.specs.Grafting.{known_by}
-use Rattle.cut_laws.proofs.Lists.{is_some, some_or, append_assoc, all_split, IsFront}
+use Rattle.cut_laws.proofs.Lists.{is_some, some_or, append_assoc, all_split}
 use Rattle.cut_laws.proofs.Places.{begins_itself}
 use Rattle.cut_laws.proofs.InOrder.{begins_by, none_begins, piece_at, known_as, next_known}
 use Rattle.cut_laws.proofs.Results.{grafted_ranges, AreKnown, graft_run}
@@ -26,7 +25,6 @@ use Rattle.tree_expand.specs.View.{given_view}
 use Rattle.tree_expand.specs.declared.ranges.Refusal.{Refusal}
 use Rattle.tree_expand.specs.declared.stop.ExpandStop.{ExpandStop}
 use Rattle.tree_expand.specs.declared.stop.ExpandStop.TheVariants.{Refused, OutOfMemory}
-use Rattle.ctx_types.specs.declared.context.ActiveContext.{ActiveContext}
 use Rattle.subtree_cut.specs.View.{piece_view, plan_view}
 use Rattle.subtree_cut.specs.Results.{AreResults, known_results, outcomes_of}
 use Rattle.subtree_cut.specs.Cursor.{passes, takes, takes_at, asks}
@@ -87,9 +85,6 @@ takes_here (Some y) x p n s h begins =
 -- The same, by how the code comes to it.
 pub passes_if : (s : Cursor) (x : ExpandPiece) (p : List Step) (n : ℕ) → Some x ≡ slice_get s.plan.now.pieces.items s.next → begins_at p n (piece_view s.plan.now.contexts.items x) ≡ false → passes s ≡ takes_at (slice_get s.plan.now.pieces.items s.next) p n s
 passes_if s x p n at begins = sym (ap (λ y. takes_at y p n s) (sym at) ∙ ap (λ b. if b then takes (piece_view s.plan.now.contexts.items x) s.left s else passes s) begins)
-
-pub passes_at_end : (s : Cursor) (p : List Step) (n : ℕ) → None ≡ slice_get s.plan.now.pieces.items s.next → passes s ≡ takes_at (slice_get s.plan.now.pieces.items s.next) p n s
-passes_at_end s p n at = sym (ap (λ y. takes_at y p n s) (sym at))
 
 pub takes_if : (s : Cursor) (x : ExpandPiece) (p : List Step) (n : ℕ) (left : List (Result (List Tree) Refusal)) → Some x ≡ slice_get s.plan.now.pieces.items s.next → begins_at p n (piece_view s.plan.now.contexts.items x) ≡ true → s.left ≡ left
     → takes (piece_view s.plan.now.contexts.items x) left s ≡ takes_at (slice_get s.plan.now.pieces.items s.next) p n s

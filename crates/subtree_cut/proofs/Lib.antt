@@ -1,3 +1,5 @@
 mod Lists
 mod Outside
 mod InOrder
+mod Weighed
+mod Noted

@@ -1,5 +1,5 @@
 -- Lists of trees, counted; and places, compared from their ends.
-use Rattle.std.proofs.Common.{ℕ, suc, ◌≡◌, ◌-◌, ◌<◌, ◌&&◌, ◌||◌, List, [], ◌∷◌, ◌++◌, Bool, true, false, Option, None, length, refl, sym, ap, ◌∙◌, arith}
+use Rattle.std.proofs.Common.{suc, ◌≡◌, ◌-◌, ◌<◌, ◌&&◌, ◌||◌, List, [], ◌∷◌, ◌++◌, Bool, true, false, None, length, refl, sym, ap, ◌∙◌, arith}
 use Rattle.std.specs.Prelude.{if◌then◌else◌}
 use Rattle.ld_json.specs.declared.location.Step.{Step}
 use Rattle.ld_model.specs.Tree.{trees_of}

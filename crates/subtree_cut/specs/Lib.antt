@@ -1,3 +1,5 @@
 pub mod View
 pub mod Results
 pub mod Cursor
+pub mod PlanCode
+pub mod Choices

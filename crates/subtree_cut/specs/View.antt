@@ -1,5 +1,6 @@
 -- The data that plans stand for.
-use Rattle.std.specs.Prelude.{ℕ, List, Option, None, Some, map, slice_get}
+use Rattle.std.specs.List.{AllByRecursion}
+use Rattle.std.specs.Prelude.{◌<◌, length, List, Option, None, Some, map, slice_get}
 use Rattle.ld_model.specs.Tree.{trees_of}
 use Rattle.ld_tree.specs.View.{trees_view}
 use Rattle.ctx_types.specs.Context.{Context, initial}
@@ -25,3 +26,7 @@ piece_view contexts x = record {
 -- The pieces of a plan.
 abbrev pub plan_view : ExpandPlan → List Piece
 plan_view plan = map (piece_view plan.contexts.items) plan.pieces.items
+
+-- The plan has the context of each of its pieces.
+abbrev pub AreHeld : ExpandPlan → Type 0
+AreHeld plan = AllByRecursion (λ x. x.context < length plan.contexts.items) plan.pieces.items
