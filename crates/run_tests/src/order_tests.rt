@@ -229,22 +229,3 @@ fn a_folder_that_is_refused_is_named_before_the_source_is_read(
     }
     Ok(())
 }
-
-#[test]
-fn an_unreadable_context_file_is_no_refusal_by_itself(rt: HostRuntime) -> Result<(), Fail> {
-    let alloc = rt.alloc();
-    let mut source = source_of(alloc, b"[1.5]", 100, NEVER)?;
-    let mut folder = folder_of(alloc, &[("index.txt", INDEX), ("x.json", "{")], NEVER)?;
-    let mut out = sink_of(alloc, 100, NEVER, ROOM)?;
-    let mut err = sink_of(alloc, 100, NEVER, ROOM)?;
-    let status = run_on(
-        alloc,
-        "expand --contexts",
-        &mut source,
-        &mut folder,
-        &mut out,
-        &mut err,
-    )?;
-    assert!(rt; left(&status, &out, &err, (1, b"", b"error: number at byte 1\n")));
-    Ok(())
-}
