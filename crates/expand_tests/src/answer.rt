@@ -94,21 +94,32 @@ fn given(alloc: Global, store: &Store, case: &Case<'_>) -> Result<Option<Tree>, 
 
 fn range_given(alloc: Global, store: &Store, case: &RangeCase<'_>) -> Result<Tree, Stop> {
     let base = text_in(alloc, case.base)?;
-    let property = text_in(alloc, case.property)?;
     let context = context_of(alloc, case.contexts, base.as_ref(), store)?;
-    let items = items_of(read_tree(alloc, case.items.as_bytes())?)?;
+    range_in(alloc, store, &context, base.as_ref(), case)
+}
+
+/// What a range comes to in this context.
+fn range_in(
+    alloc: Global,
+    store: &Store,
+    context: &ActiveContext,
+    base: Option<&Text>,
+    case: &RangeCase<'_>,
+) -> Result<Tree, Stop> {
+    let property = text_in(alloc, case.property)?;
     let place = place_of(alloc, case.place)?;
+    let items = items_of(read_tree(alloc, case.items.as_bytes())?)?;
     if case.first.checked_add(items.len() as u64).is_none() {
         return Err(Stop::NoCase);
     }
     let expanded = expand_range(
         alloc,
-        &context,
+        context,
         property.as_ref(),
         items.as_slice(),
         case.first,
         case.from_map,
-        base.as_ref(),
+        base,
         store,
         &place,
     )?;
@@ -117,10 +128,19 @@ fn range_given(alloc: Global, store: &Store, case: &RangeCase<'_>) -> Result<Tre
 
 fn value_given(alloc: Global, store: &Store, case: &ValueCase<'_>) -> Result<Option<Tree>, Stop> {
     let base = text_in(alloc, case.base)?;
-    let property = Text::new(alloc, case.property)?;
     let context = context_of(alloc, case.contexts, base.as_ref(), store)?;
+    value_in(alloc, &context, case)
+}
+
+/// What a value comes to in this context.
+fn value_in(
+    alloc: Global,
+    context: &ActiveContext,
+    case: &ValueCase<'_>,
+) -> Result<Option<Tree>, Stop> {
+    let property = Text::new(alloc, case.property)?;
     let value = read_tree(alloc, case.value.as_bytes())?;
-    Ok(expand_value(alloc, &context, &property, &value)?)
+    Ok(expand_value(alloc, context, &property, &value)?)
 }
 
 fn added(alloc: Global, case: &AddCase<'_>) -> Result<Tree, Stop> {
