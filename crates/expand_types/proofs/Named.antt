@@ -3,7 +3,7 @@ use Rattle.std.proofs.Common.{◌≡◌, ℕ, List, [], ◌∷◌, ◌++◌, len
 use Rattle.std.specs.Prelude.{IfSome, codes, is_some, if◌then◌else◌}
 use Rattle.std.specs.List.{list_any}
 use Rattle.std.specs.Bool.{one_answer}
-use Rattle.std.specs.Option.{option_map_or, unwrap_or}
+use Rattle.std.specs.Option.{option_map, option_map_or, option_and_then, option_or, unwrap_or}
 use Rattle.std.specs.Str.{bytes_eq}
 use Rattle.std.proofs.lemmas.List.{append_cancel_left}
 use Rattle.std.proofs.lemmas.Slice.Eq.{bytes_eq-Decides}
@@ -11,9 +11,10 @@ use Rattle.case_tables.specs.Keyword.{keyword_name}
 use Rattle.case_tables.specs.declared.keyword.Keyword.{Keyword}
 use Rattle.case_tables.specs.declared.keyword.Keyword.TheVariants.{Base, Context}
 use Rattle.ld_model.specs.Tree.{Tree, Pairs}
+use Rattle.ld_model.specs.Iri.{has_scheme}
 use Rattle.ld_model.proofs.Puts.{bytes_eq-exact}
-use Rattle.ctx_types.specs.Context.{Text, Settings, definition_at}
-use Rattle.ctx_types.specs.Expansion.{keywords, is_keyword, has_keyword_form, by_definition, as_iri, expand_iri}
+use Rattle.ctx_types.specs.Context.{Text, Terms, Settings, definition_at}
+use Rattle.ctx_types.specs.Expansion.{keywords, is_keyword, has_keyword_form, by_definition, colon_parts, is_whole, by_prefix, by_form, as_iri, expand_iri}
 use Rattle.expand_model.specs.declared.Name.{Name}
 use Rattle.expand_model.specs.declared.Name.TheVariants as name
 use Rattle.expand_model.specs.Contexts.{is_alone}
@@ -53,9 +54,56 @@ alone_is c word k t (e ∷ []) one is = sym (ap (λ o. option_map_or (λ (m : Te
 alone_is c word k t (e ∷ f ∷ es) one is = absurd (omega arith)
 
 -- ---- texts of a keyword's form
+name_has_form : (k : Keyword) → has_keyword_form (keyword_name k) ≡ true
+name_has_form Base = refl
+name_has_form k = refl
+
+named_has_form : (t : Text) (ks : List Keyword) → list_any (λ k. bytes_eq t (keyword_name k)) ks ≡ true → has_keyword_form t ≡ true
+named_has_form t [] is = absurd (cc)
+named_has_form t (k ∷ ks) is = step (bytes_eq t (keyword_name k)) refl (named_has_form t ks) is
+  where
+    step : (b : Bool) → bytes_eq t (keyword_name k) ≡ b → (list_any (λ k. bytes_eq t (keyword_name k)) ks ≡ true → has_keyword_form t ≡ true) → (b || list_any (λ k. bytes_eq t (keyword_name k)) ks) ≡ true → has_keyword_form t ≡ true
+    step true same rest is = ap has_keyword_form (bytes_eq-exact t (keyword_name k) same) ∙ name_has_form k
+    step false same rest is = rest is
+
+-- A keyword has a keyword's form, so a text of another form is none.
+no_keyword : (t : Text) → has_keyword_form t ≡ false → is_keyword t ≡ false
+no_keyword t other = by (is_keyword t) refl
+  where
+    by : (b : Bool) → is_keyword t ≡ b → b ≡ false
+    by true is = let form = named_has_form t keywords is in absurd (cc)
+    by false is = refl
+
 -- What a text of a keyword's form stands for: itself, where it is a keyword.
 form_expands : (c : Settings) (t : Text) → has_keyword_form t ≡ true → expand_iri c false true t ≡ (if is_keyword t then Some t else None)
 form_expands c t form = ap (λ (b : Bool). if is_keyword t then Some t else if b then None else unwrap_or (by_definition true (definition_at t c.terms)) (Some (as_iri c false true t))) form
+
+-- Where there are no terms and no vocabulary, any other text stands for itself.
+abbrev iri_with : Terms → Option Text → Text → Text
+iri_with ds v t = unwrap_or (option_or (option_and_then (λ p. if is_whole p then Some t else option_or (by_prefix p.1 (definition_at p.0 ds)) (by_form t)) (colon_parts t)) (option_map (λ x. x ++ t) v)) t
+
+bare_iri : (c : Settings) (t : Text) → c.terms ≡ [] → c.vocab ≡ None → as_iri c false true t ≡ t
+bare_iri c t empty none = ap (λ ds. iri_with ds c.vocab t) empty ∙ ap (λ v. iri_with [] v t) none ∙ by (colon_parts t)
+  where
+    whole : (p : Text × Text) (w s : Bool) → unwrap_or (option_or (if w then Some t else option_or (by_prefix p.1 (definition_at p.0 [])) (if s then Some t else None)) None) t ≡ t
+    whole p true s = refl
+    whole p false true = refl
+    whole p false false = refl
+
+    by : (p : Option (Text × Text)) → unwrap_or (option_or (option_and_then (λ p. if is_whole p then Some t else option_or (by_prefix p.1 (definition_at p.0 [])) (by_form t)) p) None) t ≡ t
+    by None = refl
+    by (Some p) = whole p (is_whole p) (has_scheme t)
+
+no_terms : (ds : Terms) → length ds ≡ 0 → ds ≡ []
+no_terms [] none = refl
+no_terms (d ∷ ds) none = absurd (omega arith)
+
+pub bare_expands : (c : Settings) (t : Text) → length c.terms ≡ 0 → c.vocab ≡ None → has_keyword_form t ≡ false → expand_iri c false true t ≡ Some t
+bare_expands c t empty none other =
+    ap (λ (b : Bool). if b then Some t else if has_keyword_form t then None else unwrap_or (by_definition true (definition_at t c.terms)) (Some (as_iri c false true t))) (no_keyword t other)
+    ∙ ap (λ (b : Bool). if b then None else unwrap_or (by_definition true (definition_at t c.terms)) (Some (as_iri c false true t))) other
+    ∙ ap (λ ds. unwrap_or (by_definition true (definition_at t ds)) (Some (as_iri c false true t))) (no_terms c.terms empty)
+    ∙ ap (λ x. Some x) (bare_iri c t (no_terms c.terms empty) none)
 
 -- ---- such texts as names of entries
 -- What a keyword is as the name of an entry.
@@ -92,3 +140,12 @@ form_dropped c t form listed =
     by : (b : Bool) → (if b then name.Dropped else name.Dropped) ≡ name.Dropped
     by true = refl
     by false = refl
+
+-- A text of another form isn't `@context`.
+pub other_named : (c : Settings) (t : Text) (o : Option Text) → has_keyword_form t ≡ false → expand_iri c false true t ≡ o → name_of c t ≡ name_by o
+unfolding name_of
+other_named c t o other is = by (bytes_eq t (codes "@context")) refl ∙ ap name_by is
+  where
+    by : (b : Bool) → bytes_eq t (codes "@context") ≡ b → (if bytes_eq t (codes "@context") then name.Dropped else name_by (expand_iri c false true t)) ≡ name_by (expand_iri c false true t)
+    by true same = let form : has_keyword_form t ≡ true = ap has_keyword_form (bytes_eq-exact t (codes "@context") same) in absurd (cc)
+    by false same = ap (λ (b : Bool). if b then name.Dropped else name_by (expand_iri c false true t)) same

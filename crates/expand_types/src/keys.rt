@@ -5,7 +5,7 @@ ghost use Rattle.std.specs.Option.{option_map, option_and_then};
 ghost use Rattle.std.specs.Str.{bytes_eq};
 ghost use Rattle.iri_ref.specs.Parts.{colon};
 ghost use Rattle.ld_tree.specs.View.{view};
-ghost use Rattle.ctx_types.specs.Context.{Settings};
+ghost use Rattle.ctx_types.specs.Context.{Settings, Text as Words};
 ghost use Rattle.ctx_types.specs.ContextView.{settings_view};
 ghost use Rattle.ctx_types.specs.Expansion.{keywords};
 ghost use Rattle.ctx_types.specs.Expansion as steps;
@@ -33,9 +33,22 @@ pub fn name_of(alloc: Global, context: &ActiveContext, key: &str) -> Result<Name
     if has_keyword_form(key) {
         return Ok(keyword_named(key));
     }
+    if is_bare(context) {
+        return Ok(named(Text::new(alloc, key)?));
+    }
     match expand_iri(alloc, context, key, false, true)? {
         None => Ok(Name::Dropped),
         Some(iri) => Ok(named(iri)),
+    }
+}
+
+/// Whether a context has neither terms nor a vocabulary: any text stands for itself there, but for those of a keyword's form.
+fn is_bare(context: &ActiveContext) -> bool
+    ensures { IsTrue result → (t : Words) → IsFalse (steps.has_keyword_form t) → steps.expand_iri (settings_view context.now) false true t ≡ Some t }
+{
+    match &context.vocab {
+        Some(_) => false,
+        None => context.terms.len() == 0,
     }
 }
 
@@ -211,6 +224,9 @@ pub fn expands_to(context: &ActiveContext, word: &str, text: &str) -> bool
 {
     if has_keyword_form(text) {
         return text == word && is_keyword(text);
+    }
+    if is_bare(context) {
+        return text == word;
     }
     match context.terms.get(text) {
         Some(definition) => is_text(&definition.mapping, word),

@@ -4,11 +4,11 @@ ghost use Rattle.std.specs.Prelude.{◌≡◌, ◌+◌, ◌<◌, ◌^◌, [], le
 ghost use Rattle.ld_model.specs.Tree.{members_of, trees_of};
 ghost use Rattle.ld_tree.specs.View.{trees_view, view};
 ghost use Rattle.expand_model.specs.Over as over;
-ghost use Rattle.expand_model.specs.Rules.{◌>>=◌, finished_at};
 ghost use Rattle.expand_types.specs.View.{definition_in, map_scope_view, options_view, scope_view};
 ghost use Rattle.expand_contexts.specs.Memo.{MayRecall};
 ghost use Rattle.tree_expand.specs.Answers.{Gives};
 ghost use Rattle.tree_expand.specs.View.{at_view, inside_view};
+ghost use Rattle.tree_expand.specs.Walked.{walked};
 
 use crate::at::{At, Inside};
 use crate::parts::{
@@ -239,8 +239,7 @@ fn mapped<'x, R: Ranges>(
     members: &'x Members,
 ) -> Result<Tree, ExpandStop>
     ensures { Gives result view ranges.new
-        (over.walk_over (options_view options.now) R.asked R.settles (members_of members.now) [] (record { scope = map_scope_view scope.now; place = (at_view at.now).place }) ranges.old
-        >>= (λ v. over.here v.1 (finished_at (at_view at.now) v.0))) }
+        (walked (at_view at.now) (over.walk_over (options_view options.now) R.asked R.settles (members_of members.now) [] (record { scope = map_scope_view scope.now; place = (at_view at.now).place }) ranges.old)) }
 {
     let inside = Inside {
         scope: *scope,

@@ -98,9 +98,9 @@ node-returns-in-Some-clause-value g t c =
 pub node-returns-clause-value : goal.node-returns-clause-value
 node-returns-clause-value g t c =
     let o = options_view c.args.options.now in
-    gives_of c.mapped.result view c.mapped.new.ranges
-    (node_next o (walk_over o g.R.Ranges.asked g.R.Ranges.settles (members_of c.args.members.now) []) c.args.members.now (at_view c.args.at.now) c.args.ranges.now (entered_view c.in_ok-entered.entered) (map_scope_view c.scope.result) c.in_ok-entered.ensures.entered c.scope.ensures)
-    c.mapped.ensures
+    gives_of c.mapped-2.result view c.mapped-2.new.ranges
+    (node_next o (walk_over o g.R.Ranges.asked g.R.Ranges.settles (members_of c.args.members.now) []) c.args.members.now (at_view c.args.at.now) c.args.ranges.now (entered_view c.in_ok-entered.entered) (map_scope_view c.scope-scope.result) c.in_ok-entered.ensures.entered c.scope-scope.ensures)
+    c.mapped-2.ensures
 
 pub mapped-returns-in_err-made : goal.mapped-returns-in_err-made
 mapped-returns-in_err-made g t c =
