@@ -25,6 +25,7 @@ from jsonld import refusals  # noqa: E402
 from jsonld.command import answer  # noqa: E402
 from making.alphabet import BASES  # noqa: E402
 from making.documents import random_case  # noqa: E402
+from making.farther import farther_case  # noqa: E402
 from making.maker import bytes_of  # noqa: E402
 from making.nodes import nodes_case  # noqa: E402
 from making.outside import byte_case, folder_case, words_case  # noqa: E402
@@ -54,10 +55,11 @@ def words_for(maker, folder):
 
 
 KINDS = [
-    ("random", 0.22, lambda rng: random_case(rng, False)),
-    ("changed", 0.12, lambda rng: random_case(rng, True)),
-    ("sentence", 0.34, sentence_case),
-    ("nodes", 0.2, nodes_case),
+    ("random", 0.2, lambda rng: random_case(rng, False)),
+    ("changed", 0.11, lambda rng: random_case(rng, True)),
+    ("sentence", 0.31, sentence_case),
+    ("nodes", 0.18, nodes_case),
+    ("farther", 0.08, farther_case),
     ("bytes", 0.07, byte_case),
     ("words", 0.02, words_case),
     ("folder", 0.03, folder_case)]
