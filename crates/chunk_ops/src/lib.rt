@@ -11,4 +11,8 @@ mod operations;
 mod shard;
 
 pub use chunk::{Chunk, ops_of};
+pub use operations::{
+    add_entry, add_type, append_list, ensure_graph, ensure_node, ensure_property, set_index,
+    use_label,
+};
 pub use shard::shard_of;

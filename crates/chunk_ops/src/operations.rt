@@ -7,21 +7,25 @@ use ld_tree::Text;
 use op_types::{Entries, Entry, Name, Op};
 use std::alloc::AllocError;
 
-pub(crate) fn use_label(name: &Name) -> Result<Op, AllocError>
+/// The label of a name is used (section 7.4), as an operation. Each of these copies the names that it has, and fails only where a text has more
+/// holders than can be counted.
+pub fn use_label(name: &Name) -> Result<Op, AllocError>
     ensures { IfOk result (λ o. op_view o ≡ use_label (name_view name.now)) }
 {
     let name = name.copy()?;
     Ok(Op::UseLabel { name })
 }
 
-pub(crate) fn ensure_graph(graph: &Name) -> Result<Op, AllocError>
+/// A graph is made (step 6.10).
+pub fn ensure_graph(graph: &Name) -> Result<Op, AllocError>
     ensures { IfOk result (λ o. op_view o ≡ ensure_graph (name_view graph.now)) }
 {
     let graph = graph.copy()?;
     Ok(Op::EnsureGraph { graph })
 }
 
-pub(crate) fn ensure_node(graph: &Name, node: &Name) -> Result<Op, AllocError>
+/// A node of a graph is made (steps 6.1 to 6.4).
+pub fn ensure_node(graph: &Name, node: &Name) -> Result<Op, AllocError>
     ensures { IfOk result (λ o. op_view o ≡ ensure_node (name_view graph.now) (name_view node.now)) }
 {
     let graph = graph.copy()?;
@@ -29,7 +33,8 @@ pub(crate) fn ensure_node(graph: &Name, node: &Name) -> Result<Op, AllocError>
     Ok(Op::EnsureNode { graph, node })
 }
 
-pub(crate) fn ensure_property(graph: &Name, node: &Name, property: &Name) -> Result<Op, AllocError>
+/// A property of a node is made, with no entries (steps 6.12.1 and 6.12.2).
+pub fn ensure_property(graph: &Name, node: &Name, property: &Name) -> Result<Op, AllocError>
     ensures { IfOk result (λ o. op_view o ≡ ensure_property (name_view graph.now) (name_view node.now) (name_view property.now)) }
 {
     let graph = graph.copy()?;
@@ -42,12 +47,8 @@ pub(crate) fn ensure_property(graph: &Name, node: &Name, property: &Name) -> Res
     })
 }
 
-pub(crate) fn add_entry(
-    graph: &Name,
-    node: &Name,
-    property: &Name,
-    entry: Entry,
-) -> Result<Op, AllocError>
+/// An entry is added to a property of a node, unless it has an equal one (steps 4.2, 6.5.2 and 6.6.3).
+pub fn add_entry(graph: &Name, node: &Name, property: &Name, entry: Entry) -> Result<Op, AllocError>
     ensures { IfOk result (λ o. op_view o ≡ add_entry (name_view graph.now) (name_view node.now) (name_view property.now) (entry_view entry)) }
 {
     let graph = graph.copy()?;
@@ -61,7 +62,8 @@ pub(crate) fn add_entry(
     })
 }
 
-pub(crate) fn append_list(
+/// A list is appended to a property of a node (step 5.4).
+pub fn append_list(
     graph: &Name,
     node: &Name,
     property: &Name,
@@ -80,7 +82,8 @@ pub(crate) fn append_list(
     })
 }
 
-pub(crate) fn add_type(graph: &Name, node: &Name, name: Name) -> Result<Op, AllocError>
+/// A type is added to a node (step 3).
+pub fn add_type(graph: &Name, node: &Name, name: Name) -> Result<Op, AllocError>
     ensures { IfOk result (λ o. op_view o ≡ add_type (name_view graph.now) (name_view node.now) (name_view name)) }
 {
     let graph = graph.copy()?;
@@ -88,7 +91,8 @@ pub(crate) fn add_type(graph: &Name, node: &Name, name: Name) -> Result<Op, Allo
     Ok(Op::AddType { graph, node, name })
 }
 
-pub(crate) fn set_index(graph: &Name, node: &Name, index: Text) -> Result<Op, AllocError>
+/// A node gets an index (step 6.8).
+pub fn set_index(graph: &Name, node: &Name, index: Text) -> Result<Op, AllocError>
     ensures { IfOk result (λ o. op_view o ≡ set_index (name_view graph.now) (name_view node.now) index) }
 {
     let graph = graph.copy()?;
