@@ -55,7 +55,7 @@ module _ (P : Division → Type 0) (Good : List Mark → Type 0) (Taken : List T
     divide_keeps plan all g to one_one d out is = is
     divide_keeps plan all g to (text x) d out is = is
 
-    items_keep : (plan : Plan) (all : IsGood plan) (g : Name) (to : To Name) (marks : List Mark) (number : ℕ) (taken : List Tree) (ts : Trees) (d : Division) → is_outside to ≡ true → Good marks → Taken taken → P d
+    pub items_keep : (plan : Plan) (all : IsGood plan) (g : Name) (to : To Name) (marks : List Mark) (number : ℕ) (taken : List Tree) (ts : Trees) (d : Division) → is_outside to ≡ true → Good marks → Taken taken → P d
         → P (divide_items plan g to marks number taken ts d)
     items_keep plan all g to marks number taken no_trees d out good are is = keeps.range g to taken d out are is
     items_keep plan all g to (begins ∷ marks) number taken (tree t ts) d out good are is =
