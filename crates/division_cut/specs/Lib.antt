@@ -1,0 +1,5 @@
+pub mod Weighed
+pub mod Views
+pub mod Standing
+pub mod Found
+pub mod Turns
