@@ -1,14 +1,13 @@
 -- Steps that tell what operations say answer alike to steps that note them.
 use Rattle.std.proofs.Common.{◌≡◌, ℕ, ◌+◌, List, [], ◌∷◌, Bool, true, false, if◌then◌else◌, Option, Some, None, refl, sym, ap, ap₂, ◌∙◌}
-use Rattle.ld_model.specs.Tree.{Tree, array, trees_of}
+use Rattle.ld_model.specs.Tree.{Tree, Trees, array, trees_of}
 use Rattle.ld_model.specs.Label.{is_blank}
-use Rattle.ld_model.specs.Keys.{default_graph}
-use Rattle.node_model.specs.Walk.{nowhere, walk}
-use Rattle.node_laws.proofs.Likeness.{Likeness, Pairwise, Reach, AnswerAlike, lasts_here}
-use Rattle.node_laws.proofs.Alike.{walk_beside}
-use Rattle.op_model.specs.Names.{Name, iri, source, fresh, name_of}
+use Rattle.node_model.specs.Walk.{To, nowhere, under, in_list, reverse, At, walk, walk_all}
+use Rattle.node_laws.proofs.Likeness.{Likeness, Pairwise, Reach, Toward, AnswerAlike, lasts_here}
+use Rattle.node_laws.proofs.Alike.{all_beside}
+use Rattle.op_model.specs.Names.{Name, source, fresh, name_of}
 use Rattle.op_model.specs.Ops.{Entry, reference, list, entries_of, Op, use_label, ensure_graph, ensure_node, ensure_property, add_entry, append_list, add_type, set_index}
-use Rattle.op_model.specs.Noting.{Notes, note, noting, no_notes, top_range, ops_of}
+use Rattle.op_model.specs.Noting.{Notes, note, noting, no_notes}
 use Rattle.subtree_summary.specs.OnTheWay.{SoFar}
 use Rattle.chunk_sums.specs.Summing.{OnTheWay, told, summing, on_the_way, then_said, summed}
 use Rattle.chunk_sums.proofs.Told.{then_said-last, summed-note, nothing_yet}
@@ -76,19 +75,28 @@ module _ (chunk : ℕ) (before : SoFar) where
     index = λ g h a b x s n graph id is. told_reach (set_index g a x) (set_index h b x) s n (λ i. set_index (graph i) (id i) x) is;
   }
 
+  same_place : (s : OnTheWay) (to : To Name) → Toward summed_alike s to to
+  same_place s nowhere = tt
+  same_place s (under n p) = (refl, refl)
+  same_place s in_list = tt
+  same_place s (reverse n p) = (refl, refl)
+
   -- A walk that tells what operations say comes to what the notes of a walk come to, and these are still of the chunk.
-  pub walks_alike : (g : Name) (t : Tree) → Stands (walk summing g nowhere t (record { state = on_the_way chunk before; items = [] })).state (walk noting g nowhere t (record { state = no_notes chunk; items = [] })).state
-  walks_alike g t =
-      (walk_beside summed_alike summing noting steps_alike g g nowhere nowhere t (on_the_way chunk before) (record { state = on_the_way chunk before; items = [] }) (record { state = no_notes chunk; items = [] }) refl tt
+  walks_alike : (g : Name) (to : To Name) (ts : Trees)
+      → Stands (walk_all summing g to ts (record { state = on_the_way chunk before; items = [] })).state (walk_all noting g to ts (record { state = no_notes chunk; items = [] })).state
+  walks_alike g to ts =
+      (all_beside summed_alike summing noting steps_alike g g to to ts (on_the_way chunk before) (record { state = on_the_way chunk before; items = [] }) (record { state = no_notes chunk; items = [] }) refl
+      (same_place (on_the_way chunk before) to)
       (record { states = (nothing_yet chunk before, refl); gathered = tt; lasts = lasts_here summed_alike (on_the_way chunk before) })).states
 
-  -- What sums have been told once the items of the document's own array were gone through.
-  pub said_of_items : (items : List Tree) (g : Name) (s r : OnTheWay) (t : SoFar)
-      → g ≡ iri default_graph → s ≡ on_the_way chunk before → r ≡ (walk summing g nowhere (array (trees_of items)) (record { state = s; items = [] })).state → t ≡ r.so_far
-      → t ≡ then_said chunk before (ops_of chunk (top_range items))
-  said_of_items items g s r t graph begun ended taken =
-      let tree = array (trees_of items) in
-      let both = walks_alike (iri default_graph) tree in
+  -- What sums have been told once some items were gone through, wherever these stand.
+  pub said_of_range : (items : List Tree) (g : Name) (to : To Name) (s r : OnTheWay) (es fs : List Entry) (t : SoFar)
+      → s ≡ on_the_way chunk before → es ≡ [] → record { state = r; items = fs } ≡ walk_all summing g to (trees_of items) (record { state = s; items = es }) → t ≡ r.so_far
+      → t ≡ then_said chunk before (walk noting g to (array (trees_of items)) (record { state = no_notes chunk; items = [] })).state.ops
+  said_of_range items g to s r es fs t begun none ended taken =
+      let both = walks_alike g to (trees_of items) in
+      let ops = (walk_all noting g to (trees_of items) (record { state = no_notes chunk; items = [] })).state.ops in
       taken
-      ∙ ap (λ (u : OnTheWay). u.so_far) (ended ∙ ap₂ (λ a b. (walk summing a nowhere tree (record { state = b; items = [] })).state) graph begun ∙ both.0)
-      ∙ ap (λ c. then_said c before (ops_of chunk (top_range items))) both.1
+      ∙ ap (λ (w : At OnTheWay Entry). w.state.so_far) (ended ∙ (λ i. walk_all summing g to (trees_of items) (record { state = begun i; items = none i })))
+      ∙ ap (λ (u : OnTheWay). u.so_far) both.0
+      ∙ ap (λ c. then_said c before ops) both.1

@@ -8,8 +8,9 @@ use Rattle.op_model.specs.Running.{used, uses, uses_of_all}
 use Rattle.sum_model.specs.Shards.{in_shard, falls_in, ops_in}
 use Rattle.sum_model.specs.Sums.{Place, empty_sum, join, placed_from, placed, sum, sum_of_one}
 use Rattle.sum_laws.proofs.Sums.{join_is_a_monoid, the_sum_of_both_is_the_join}
-use Rattle.subtree_summary.specs.OnTheWay.{SoFar, nothing_said, tell}
+use Rattle.subtree_summary.specs.OnTheWay.{SoFar, nothing_said, turned_to, tell}
 use Rattle.subtree_summary.specs.Summing.{one_in}
+use Rattle.subtree_summary.proofs.AllTold.{all_told, shards_told, names_told, said_told}
 use Rattle.subtree_summary.proofs.Used.{used-append}
 use Rattle.chunk_sums.specs.Summing.{told, on_the_way, then_said, summed}
 
@@ -70,3 +71,21 @@ nothing_yet chunk s i = record {
 -- Where nothing was said before.
 pub from_nothing : (chunk shards : ℕ) (os : List Op) (k : ℕ) → (then_said chunk (nothing_said chunk shards) os).said k ≡ sum (ops_in (in_shard shards k) (placed chunk os))
 from_nothing chunk shards os k = join_is_a_monoid.left (sum (ops_in (in_shard shards k) (placed chunk os)))
+
+chunk_told : (os : List Op) (s : SoFar) → (all_told os s).chunk ≡ s.chunk
+chunk_told [] s = refl
+chunk_told (o ∷ os) s = chunk_told os (tell o s)
+
+count_told : (os : List Op) (s : SoFar) → (all_told os s).count ≡ s.count + length os
+count_told [] s = omega arith
+count_told (o ∷ os) s = count_told os (tell o s) ∙ (omega arith)
+
+-- Operations told one after another say what they say together.
+pub all_said : (chunk : ℕ) (s : SoFar) (os : List Op) → all_told os (turned_to chunk s) ≡ then_said chunk s os
+all_said chunk s os i = record {
+  chunk = chunk_told os (turned_to chunk s) i;
+  count = (count_told os (turned_to chunk s) ∙ (let same : 0 + length os ≡ length os = omega arith in same)) i;
+  shards = shards_told os (turned_to chunk s) i;
+  said = λ k. said_told os (turned_to chunk s) k i;
+  names = names_told os (turned_to chunk s) i;
+}
