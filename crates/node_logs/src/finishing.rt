@@ -53,12 +53,18 @@ pub fn members_of(alloc: Global, id: &Text, node: Node) -> Result<Members, Alloc
 {
     let Node { types, index, told } = node;
     let properties = merged(alloc, told)?;
-    let mut members = Members::with_capacity(alloc, properties.len().saturating_add(3))?;
+    let mut members = Members::with_capacity(alloc, count_of(&index, &types, &properties))?;
     members.put(alloc, "@id", Tree::Str(id.copy()?))?;
     put_index(alloc, &mut members, index)?;
     put_types(alloc, &mut members, types)?;
     put_properties(alloc, &mut members, properties)?;
     Ok(members)
+}
+
+/// How many members the object of a node has. A document has many nodes, so none of them gets room that it doesn't need.
+fn count_of(index: &Option<Text>, types: &Vec<Text>, properties: &Vec<Told>) -> usize {
+    let keywords = 1 + index.is_some() as usize + !types.is_empty() as usize;
+    properties.len().saturating_add(keywords)
 }
 
 #[tactic(auto, unfolding(ld_model::specs::Tree::put))]
