@@ -46,11 +46,11 @@ pub(crate) fn node_of(alloc: Global, labels: &Labels, entry: PartEntry) -> Resul
     })
 }
 
-fn text_of(index: Option<IndexAt>) -> Option<Text>
+fn text_of(index: Option<Box<IndexAt>>) -> Option<Text>
     ensures { result ≡ option_map (λ i. i.text) (index_view index) }
 {
     match index {
-        Some(at) => Some(at.index),
+        Some(at) => Some(Box::into_inner(at).index),
         None => None,
     }
 }

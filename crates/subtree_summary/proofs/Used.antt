@@ -1,9 +1,10 @@
 -- Names in the order of first use, one use after another.
-use Rattle.std.proofs.Common.{◌≡◌, List, [], ◌∷◌, ◌++◌, Bool, true, false, cond, refl, sym, ap, ◌∙◌}
+use Rattle.std.proofs.Common.{◌≡◌, ℕ, zero, suc, List, [], ◌∷◌, ◌++◌, Some, slice_get, Bool, true, false, cond, ◌||◌, refl, sym, ap, ◌∙◌}
 use Rattle.std.specs.List.{list_any}
 use Rattle.std.proofs.lemmas.List.{map-append}
 use Rattle.indexmap.specs.IndexSet.{insert_key}
 use Rattle.op_model.specs.Names.{Name}
+use Rattle.sum_model.specs.Joins.{or_empty}
 use Rattle.op_model.specs.Running.{with_name, used}
 use Rattle.op_types.specs.View.{name_view, names_view}
 use Rattle.op_types.specs.declared.name.Name as code
@@ -19,6 +20,16 @@ pub used-fourth : (held a b c d : List Name) → used (used held (a ++ (b ++ c))
 used-fourth held a b c d =
     ap (λ u. used u d) (used-append held a (b ++ c) ∙ used-append (used held a) b c)
     ∙ sym (used-append held a (b ++ (c ++ d)) ∙ used-append (used held a) b (c ++ d) ∙ used-append (used (used held a) b) c d)
+
+-- A name that equals one of them is among them.
+pub among : (ks : List code.Name) (i : ℕ) (k n : code.Name) → slice_get ks i ≡ Some k → same_code_name n k ≡ true → list_any (same_code_name n) ks ≡ true
+among [] i k n at same = absurd (cc)
+among (x ∷ xs) zero k n at same = ap (λ t. t || list_any (same_code_name n) xs) (ap (λ o. same_code_name n (or_empty x o)) at ∙ same)
+among (x ∷ xs) (suc i) k n at same = ap (λ t. same_code_name n x || t) (among xs i k n at same) ∙ or_true (same_code_name n x)
+  where
+    or_true : (t : Bool) → (t || true) ≡ true
+    or_true true = refl
+    or_true false = refl
 
 -- A name that is among those that were used, and one that is put with them where it is new.
 pub already_used : (ks : List code.Name) (k : code.Name) → list_any (same_code_name k) ks ≡ true → names_view ks ≡ with_name (names_view ks) (name_view k)

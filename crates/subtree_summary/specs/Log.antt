@@ -1,5 +1,6 @@
 -- What is said of a node, where a log of it stands for what is left without repeats.
-use Rattle.std.specs.Prelude.{ℕ, ◌+◌, ◌≤◌, List, [], ◌∷◌, Option, Some, None}
+use Rattle.std.specs.Prelude.{ℕ, ◌+◌, ◌-◌, ◌≤◌, List, [], ◌∷◌, Option, Some, None, length, slice_get, option_map, Box}
+use Rattle.std.specs.declared.alloc.Global.{Global}
 use Rattle.std.specs.Vec.{vec_len, vec_capacity}
 use Rattle.op_model.specs.Names.{Name, same_name}
 use Rattle.op_model.specs.Ops.{Entry}
@@ -21,9 +22,9 @@ second_view (Some s) = Some (record { chunk = s.chunk; number = s.op }, s.index)
 abbrev pub index_at_view : IndexAt → Index
 index_at_view i = record { place = record { chunk = i.chunk; number = i.op }; text = i.index; conflict = second_view i.conflict }
 
-abbrev pub index_view : Option IndexAt → Option Index
+abbrev pub index_view : Option (Box IndexAt Global) → Option Index
 index_view None = None
-index_view (Some i) = Some (index_at_view i)
+index_view (Some b) = Some (index_at_view b.value)
 
 -- An index, once a later one is set.
 abbrev pub joined_at : Index → Index → Index
@@ -37,6 +38,10 @@ told_view t = (name_view t.property, once same_entry (entries_view t.entries.ite
 abbrev pub properties_view : List Told → List (Name × List Entry)
 properties_view [] = []
 properties_view (t ∷ ts) = properties_joined (told_view t ∷ []) (properties_view ts)
+
+-- The property of which something was said last.
+abbrev pub last_property : List Told → Option Name
+last_property ts = option_map (λ t. name_view t.property) (slice_get ts (length ts - 1))
 
 -- What a log says of a node.
 abbrev pub part_entry_view : PartEntry → model.PartEntry

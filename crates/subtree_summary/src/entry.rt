@@ -1,9 +1,10 @@
 // What is said of a node, as a log.
-ghost use Rattle.std.specs.Prelude.{◌≡◌, [], ◌∷◌, ◌++◌, None, OnOk, IfOk, IsOk};
+ghost use Rattle.std.specs.Prelude.{◌≡◌, [], ◌∷◌, ◌++◌, true, None, Some, OnOk, IfOk, IsOk};
+ghost use Rattle.op_model.specs.Names.{Name as Named};
 ghost use Rattle.op_types.specs.View.{name_view, entry_view};
 ghost use Rattle.sum_model.specs.Sums as model;
 ghost use Rattle.sum_model.specs.Sums.{bare, indexes_joined, part_entries_joined, properties_joined};
-ghost use Rattle.subtree_summary.specs.Log.{second_view, index_at_view, index_view, joined_at, properties_view, part_entry_view, said, HasRoom};
+ghost use Rattle.subtree_summary.specs.Log.{second_view, index_at_view, index_view, joined_at, properties_view, last_property, part_entry_view, said, HasRoom};
 
 use ld_tree::Text;
 use op_types::{Entry, Name};
@@ -47,8 +48,8 @@ pub struct Told {
 pub struct PartEntry {
     /// The types, in the order in which they were said.
     pub types: Vec<Name>,
-    /// The first index, and whether another one came.
-    pub index: Option<IndexAt>,
+    /// The first index, and whether another one came. It stands in a block of its own, since few nodes have one.
+    pub index: Option<Box<IndexAt>>,
     /// What was said of properties, in the order in which it was said.
     pub told: Vec<Told>,
 }
@@ -96,6 +97,7 @@ impl PartEntry {
                 Ok(())
             }
             Telling::Index(index) => {
+                let index = Box::new(alloc, index)?;
                 self.index = joined(self.index.take(), Some(index));
                 Ok(())
             }
@@ -133,11 +135,16 @@ impl PartEntry {
     }
 }
 
+/// Notes that there is this property. What was said last is of this property then.
 fn tell_property(alloc: Global, log: &mut Vec<Told>, property: &Name) -> Result<(), AllocError>
-    ensures { OnOk result (properties_view log.new.items ≡ properties_joined (properties_view log.old.items) ((name_view property.now, []) ∷ [])) }
+    ensures told { OnOk result (properties_view log.new.items ≡ properties_joined (properties_view log.old.items) ((name_view property.now, []) ∷ [])) }
+    ensures last { OnOk result (last_property log.new.items ≡ Some (name_view property.now)) }
 {
-    let last = last_told(alloc, log, property)?;
-    log.push(last)?;
+    if ends_with(log.as_slice(), property) {
+        return Ok(());
+    }
+    let told = nothing_told(alloc, property)?;
+    push_told(log, told)?;
     Ok(())
 }
 
@@ -149,27 +156,43 @@ fn tell_entry(
 ) -> Result<(), AllocError>
     ensures { OnOk result (properties_view log.new.items ≡ properties_joined (properties_view log.old.items) ((name_view property.now, entry_view entry ∷ []) ∷ [])) }
 {
-    let mut last = last_told(alloc, log, property)?;
-    last.entries.push(entry)?;
-    log.push(last)?;
+    tell_property(alloc, log, property)?;
+    add_to_last(log, entry)?;
     Ok(())
 }
 
-/// What was said last, taken from the end of the log, where it was said of this property; else nothing, of this property.
-fn last_told(alloc: Global, log: &mut Vec<Told>, property: &Name) -> Result<Told, AllocError>
-    ensures property { IfOk result (λ t. name_view t.property ≡ name_view property.now) }
-    ensures log { IfOk result (λ t. properties_view (log.new.items ++ t ∷ []) ≡ properties_joined (properties_view log.old.items) ((name_view property.now, []) ∷ [])) }
+/// Whether what was said last was said of this property.
+fn ends_with(log: &[Told], property: &Name) -> bool
+    ensures { result ≡ true → last_property log.now ≡ Some (name_view property.now) }
 {
-    let Some(last) = log.pop() else {
-        let told = nothing_told(alloc, property)?;
-        return Ok(told);
-    };
-    if last.property == *property {
-        return Ok(last);
+    match log.last() {
+        Some(last) => last.property == *property,
+        None => false,
     }
-    log.push(last)?;
-    let told = nothing_told(alloc, property)?;
-    Ok(told)
+}
+
+/// Puts something said behind the rest. Many nodes have one property, so there is room for one at first.
+fn push_told(log: &mut Vec<Told>, told: Told) -> Result<(), AllocError>
+    ensures { OnOk result (log.new.items ≡ log.old.items ++ told ∷ []) }
+{
+    if log.is_empty() {
+        log.reserve_exact(1)?;
+    }
+    log.push(told)?;
+    Ok(())
+}
+
+/// Puts an entry behind those of the property of which something was said last.
+fn add_to_last(log: &mut Vec<Told>, entry: Entry) -> Result<(), AllocError>
+    ensures { OnOk result ((p : Named) → last_property log.old.items ≡ Some p → properties_view log.new.items ≡ properties_joined (properties_view log.old.items) ((p, entry_view entry ∷ []) ∷ [])) }
+{
+    match log.last_mut() {
+        Some(last) => {
+            last.entries.push(entry)?;
+            Ok(())
+        }
+        None => Ok(()),
+    }
 }
 
 /// Nothing, of this property, whose name is copied here. There is room for one entry, since most properties have one.
@@ -184,7 +207,7 @@ fn nothing_told(alloc: Global, property: &Name) -> Result<Told, AllocError>
 }
 
 /// The index of a node, where a part has it and then a later one has: that of the earlier part stays.
-fn joined(earlier: Option<IndexAt>, later: Option<IndexAt>) -> Option<IndexAt>
+fn joined(earlier: Option<Box<IndexAt>>, later: Option<Box<IndexAt>>) -> Option<Box<IndexAt>>
     ensures { index_view result ≡ indexes_joined (index_view earlier) (index_view later) }
 {
     let Some(earlier) = earlier else {
@@ -193,7 +216,16 @@ fn joined(earlier: Option<IndexAt>, later: Option<IndexAt>) -> Option<IndexAt>
     let Some(later) = later else {
         return Some(earlier);
     };
-    Some(earlier.followed_by(later))
+    Some(both(earlier, later))
+}
+
+/// An index, once a later one is set.
+fn both(earlier: Box<IndexAt>, later: Box<IndexAt>) -> Box<IndexAt>
+    ensures { index_at_view result.value ≡ joined_at (index_at_view earlier.value) (index_at_view later.value) }
+{
+    let mut index = earlier;
+    index.follow(Box::into_inner(later));
+    index
 }
 
 impl IndexAt {
@@ -209,23 +241,11 @@ impl IndexAt {
         }
     }
 
-    /// This index, once a later one is set.
-    fn followed_by(self, later: IndexAt) -> IndexAt
-        ensures { index_at_view result ≡ joined_at (index_at_view self) (index_at_view later) }
+    /// Notes that a later one is set.
+    fn follow(&mut self, later: IndexAt)
+        ensures { index_at_view self.new ≡ joined_at (index_at_view self.old) (index_at_view later) }
     {
-        let IndexAt {
-            chunk,
-            op,
-            index,
-            conflict,
-        } = self;
-        let conflict = first_different(&index, conflict, later);
-        IndexAt {
-            chunk,
-            op,
-            index,
-            conflict,
-        }
+        self.conflict = first_different(&self.index, self.conflict.take(), later);
     }
 }
 

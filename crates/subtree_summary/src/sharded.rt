@@ -30,6 +30,10 @@ pub(crate) struct Sharded {
     pub(crate) parts: Vec<Part>,
     /// Where the node stands of which something was said last. Operations of a node come in a row, so it is looked up once for the row.
     row: Option<Row>,
+    /// Where the node stands of which something was said before that: the one in which a node is nested, once that node ends.
+    before: Option<Row>,
+    /// Where the node stands that was noted last, of which something is mostly said next.
+    noted: Option<Row>,
     pub(crate) ghost some: { 0 < shards },
     pub(crate) ghost long: { length parts.items ≡ shards },
     pub(crate) ghost in_place: { AreInPlace shards parts.items },
@@ -46,6 +50,8 @@ impl Sharded {
             shards,
             parts: empty_parts(alloc, shards, hasher)?,
             row: None,
+            before: None,
+            noted: None,
         })
     }
 
@@ -72,7 +78,9 @@ impl Sharded {
     {
         let shard = shard_of(node, self.shards) as usize;
         let index = self.parts[shard].index_of(alloc, graph, node)?;
-        Ok(Row { shard, index })
+        let row = Row { shard, index };
+        self.noted = Some(row);
+        Ok(row)
     }
 
     /// Notes what is said of a node.
@@ -87,7 +95,6 @@ impl Sharded {
         ensures said { OnOk result ((k : ℕ) → part_at self.new.parts.items k ≡ join (part_at self.old.parts.items k) (node_in self.old.shards k (name_view graph.now, name_view node.now) (said telling.entry))) }
     {
         let row = self.row_at(alloc, graph, node)?;
-        self.row = Some(row);
         self.parts[row.shard].tell(alloc, row.index, telling)?;
         Ok(())
     }
@@ -101,28 +108,48 @@ impl Sharded {
             shards: _,
             parts,
             row: _,
+            before: _,
+            noted: _,
         } = self;
         parts
     }
 
-    /// Where a node stands: it is looked up, unless something was said of it last.
+    /// Where a node stands. What was said last of all is mostly of the same node.
     fn row_at(&mut self, alloc: Global, graph: &Name, node: &Name) -> Result<Row, AllocError>
         ensures kept { OnOk result (self.new.shards ≡ self.old.shards) }
         ensures said { OnOk result ((k : ℕ) (e : PartEntry) → join (part_at self.new.parts.items k) (node_in self.old.shards k (name_view graph.now, name_view node.now) e) ≡ join (part_at self.old.parts.items k) (node_in self.old.shards k (name_view graph.now, name_view node.now) e)) }
         ensures key { IfOk result (λ r. key_at self.new.parts.items r.shard r.index ≡ Some (name_view graph.now, name_view node.now)) }
     {
-        if let Some(row) = self.last_row(graph, node) {
+        if let Some(row) = self.row_of(self.row, graph, node) {
+            return Ok(row);
+        }
+        let row = self.other_row(alloc, graph, node)?;
+        self.before = self.row;
+        self.row = Some(row);
+        Ok(row)
+    }
+
+    /// The same, where it isn't that node: it is looked up, unless it was noted last, or something was said of it before.
+    fn other_row(&mut self, alloc: Global, graph: &Name, node: &Name) -> Result<Row, AllocError>
+        ensures kept { OnOk result (self.new.shards ≡ self.old.shards) }
+        ensures said { OnOk result ((k : ℕ) (e : PartEntry) → join (part_at self.new.parts.items k) (node_in self.old.shards k (name_view graph.now, name_view node.now) e) ≡ join (part_at self.old.parts.items k) (node_in self.old.shards k (name_view graph.now, name_view node.now) e)) }
+        ensures key { IfOk result (λ r. key_at self.new.parts.items r.shard r.index ≡ Some (name_view graph.now, name_view node.now)) }
+    {
+        if let Some(row) = self.row_of(self.noted, graph, node) {
+            return Ok(row);
+        }
+        if let Some(row) = self.row_of(self.before, graph, node) {
             return Ok(row);
         }
         let row = self.make_node(alloc, graph, node)?;
         Ok(row)
     }
 
-    /// Where the node stands of which something was said last, where it is this one.
-    fn last_row(&self, graph: &Name, node: &Name) -> Option<Row>
+    /// This row, where it is that of the node.
+    fn row_of(&self, row: Option<Row>, graph: &Name, node: &Name) -> Option<Row>
         ensures { IfSome result (λ r. key_at self.now.parts.items r.shard r.index ≡ Some (name_view graph.now, name_view node.now)) }
     {
-        let row = self.row?;
+        let row = row?;
         let part = self.parts.get(row.shard)?;
         let (key, _) = part.nodes.get_index(row.index)?;
         if is_key(key, graph, node) {

@@ -1,8 +1,10 @@
 // The names that need labels, in the order of first use.
-ghost use Rattle.std.specs.Prelude.{◌≡◌, [], ◌++◌, OnOk};
+ghost use Rattle.std.specs.Prelude.{◌≡◌, [], ◌++◌, true, OnOk};
+ghost use Rattle.std.specs.List.{list_any};
 ghost use Rattle.op_model.specs.Names.{blank};
 ghost use Rattle.op_model.specs.Running.{with_name, used, uses_of_entry};
 ghost use Rattle.op_types.specs.View.{name_view, entry_view};
+ghost use Rattle.subtree_summary.specs.Parts.{same_code_name};
 ghost use Rattle.subtree_summary.specs.Uses.{uses_view, uses_of_list};
 
 use crate::keyed::Keyed;
@@ -65,11 +67,21 @@ impl LabelUses {
     fn note_blank(&mut self, name: &Name) -> Result<(), AllocError>
         ensures { OnOk result (uses_view self.new ≡ with_name (uses_view self.old) (name_view name.now)) }
     {
-        if self.names.contains(name) {
+        if self.ends_with(name) {
             return Ok(());
         }
         self.names.insert(name.copy()?)?;
         Ok(())
+    }
+
+    /// Whether this name was the last new one. A name is used several times in a row, so it is mostly not looked up.
+    fn ends_with(&self, name: &Name) -> bool
+        ensures { result ≡ true → list_any (same_code_name name.now) self.now.names.keys ≡ true }
+    {
+        match self.names.last() {
+            Some(last) => *name == *last,
+            None => false,
+        }
     }
 }
 

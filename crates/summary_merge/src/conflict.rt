@@ -69,7 +69,7 @@ fn comes_before(a: &ConflictAt<'_>, b: &ConflictAt<'_>) -> bool
     a.chunk < b.chunk || a.chunk == b.chunk && a.op < b.op
 }
 
-fn conflict_of<'a>(node: &'a Name, index: &'a Option<IndexAt>) -> Option<ConflictAt<'a>>
+fn conflict_of<'a>(node: &'a Name, index: &'a Option<Box<IndexAt>>) -> Option<ConflictAt<'a>>
     ensures { conflict_view result ≡ model.conflict_of (name_view node.now) (index_view index.now) }
 {
     let Some(index) = index else {

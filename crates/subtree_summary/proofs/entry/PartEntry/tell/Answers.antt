@@ -18,12 +18,15 @@ returns-in_ok-push-in-TypeName c =
     })
     ∙ ap (λ t. part_entries_joined (part_entry_view e) (said t)) (sym c.in-TypeName.is)
 
-pub returns-in-Index : goal.returns-in-Index
-returns-in-Index c =
+pub returns-in_ok-index-in-Index : goal.returns-in_ok-index-in-Index
+returns-in_ok-index-in-Index c =
     let e = c.args.self.now in
     (λ i. record {
       types = sym (laws.names.right (once same_name (names_view e.types.items))) i;
-      index = (c.joined.ensures ∙ ap (λ o. indexes_joined (index_view o) (Some (index_at_view c.in-Index.index))) c.take.ensures.value) i;
+      index =
+          (c.joined.ensures
+          ∙ ap (λ o. indexes_joined (index_view o) (Some (index_at_view c.in_ok-index-in-Index.index.value))) c.take.ensures.value
+          ∙ ap (λ v. indexes_joined (index_view e.index) (Some (index_at_view v))) c.in_ok-index-in-Index.ensures.ok) i;
       properties = sym (laws.properties.right (properties_view e.told.items)) i;
     })
     ∙ ap (λ t. part_entries_joined (part_entry_view e) (said t)) (sym c.in-Index.is)

@@ -4,8 +4,8 @@ use Rattle.op_model.specs.Running.{with_name}
 use Rattle.subtree_summary.proofs.Used.{already_used, inserted_name}
 use Rattle.subtree_summary.proofs.uses.LabelUses.note_blank.Goals as goal
 
-pub returns-then-contains : goal.returns-then-contains
-returns-then-contains c = already_used c.args.self.now.names.keys c.args.name.now (sym c.contains.ensures ∙ c.if-contains.true)
+pub returns-then-ends_with : goal.returns-then-ends_with
+returns-then-ends_with c = already_used c.args.self.now.names.keys c.args.name.now (c.ends_with.ensures c.if-ends_with.true)
 
 pub returns : goal.returns
 returns c =

@@ -1,7 +1,7 @@
 use Rattle.op_types.specs.View.{name_view}
 use Rattle.subtree_summary.specs.Summing.{part_at}
 use Rattle.subtree_summary.proofs.Joining.{told_of_made}
-use Rattle.subtree_summary.proofs.sharded.Sharded.row_at.Goals as goal
+use Rattle.subtree_summary.proofs.sharded.Sharded.other_row.Goals as goal
 
 pub returns-clause-said : goal.returns-clause-said
 returns-clause-said c k e =

@@ -9,7 +9,7 @@ use Rattle.op_types.specs.declared.name.NodeKey.{NodeKey}
 use Rattle.subtree_summary.specs.declared.entry.PartEntry.{PartEntry}
 use Rattle.subtree_summary.specs.declared.part.Part.{Part}
 use Rattle.subtree_summary.specs.Parts.{key_in}
-use Rattle.subtree_summary.proofs.sharded.Sharded.last_row.Goals as goal
+use Rattle.subtree_summary.proofs.sharded.Sharded.row_of.Goals as goal
 
 pub returns-then-is_key : goal.returns-then-is_key
 returns-then-is_key c =
