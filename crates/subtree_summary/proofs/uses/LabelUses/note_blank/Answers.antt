@@ -1,4 +1,4 @@
-use Rattle.std.proofs.Common.{sym, ap, ◌∙◌}
+use Rattle.std.proofs.Common.{ap, ◌∙◌}
 use Rattle.op_types.specs.View.{names_view}
 use Rattle.op_model.specs.Running.{with_name}
 use Rattle.subtree_summary.proofs.Used.{already_used, inserted_name}
