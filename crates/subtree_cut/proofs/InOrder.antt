@@ -8,7 +8,7 @@ use Rattle.ld_model.specs.Tree.{Tree, Trees}
 use Rattle.expand_model.specs.Scope.{Options, Fault}
 use Rattle.expand_model.specs.Rules.{At}
 use Rattle.expand_model.specs.Expand.{document}
-use Rattle.expand_model.specs.Over.{Outcome, document_over}
+use Rattle.expand_model.specs.Over.{document_over}
 use Rattle.range_laws.specs.Right.{outcome, keeps_each}
 use Rattle.cut_model.specs.Pieces.{Piece, begins_at, ranges_of}
 use Rattle.cut_model.specs.Legal.{IsLegal}
@@ -20,22 +20,13 @@ use Rattle.cut_laws.proofs.Lists.{is_some, some_or, append_assoc, all_split}
 use Rattle.cut_laws.proofs.Places.{begins_itself}
 use Rattle.cut_laws.proofs.InOrder.{begins_by, none_begins, piece_at, known_as, next_known}
 use Rattle.cut_laws.proofs.Results.{grafted_ranges, AreKnown, graft_run}
-use Rattle.tree_expand.specs.Answers.{Answers, Gives}
 use Rattle.tree_expand.specs.View.{given_view}
 use Rattle.tree_expand.specs.declared.ranges.Refusal.{Refusal}
-use Rattle.tree_expand.specs.declared.stop.ExpandStop.{ExpandStop}
-use Rattle.tree_expand.specs.declared.stop.ExpandStop.TheVariants.{Refused, OutOfMemory}
 use Rattle.subtree_cut.specs.View.{piece_view, plan_view}
 use Rattle.subtree_cut.specs.Results.{AreResults, known_results, outcomes_of}
 use Rattle.subtree_cut.specs.Cursor.{passes, takes, takes_at, asks}
 use Rattle.subtree_cut.specs.declared.plan.ExpandPiece.{ExpandPiece}
 use Rattle.subtree_cut.specs.declared.grafting.Cursor.{Cursor}
-
--- The answer of a call that leaves a state, without it.
-pub answers_of : {X V S : Type 0} (r : Result X ExpandStop) (f : X → V) (s : S) (m : Outcome S V) (d : Result V Fault) → outcome m ≡ d → Gives r f s m → Answers r f d
-answers_of (Ok x) f s m d p h = sym p ∙ ap outcome h
-answers_of (Err (Refused c q)) f s m d p h = sym p ∙ ap outcome h
-answers_of (Err OutOfMemory) f s m d p h = tt
 
 -- Results that are all known are results of the plan as the definitions have them.
 pub known_are_results : (o : Options) (plan : List Piece) (ds : List (Result (List Tree) Refusal)) → AreResults o plan (known_results ds) → model.AreResults o plan (outcomes_of ds)

@@ -1,4 +1,4 @@
--- Lists of trees, counted; and places, compared from their ends.
+-- Lists of trees, counted; and two tests.
 use Rattle.std.proofs.Common.{suc, ◌≡◌, ◌-◌, ◌<◌, ◌&&◌, ◌||◌, List, [], ◌∷◌, ◌++◌, Bool, true, false, None, length, refl, sym, ap, ◌∙◌, arith}
 use Rattle.std.specs.Prelude.{if◌then◌else◌}
 use Rattle.ld_json.specs.declared.location.Step.{Step}
@@ -16,17 +16,7 @@ pub behind_is : (ts : List Tree) → count_behind (trees_of (trees_view ts)) ≡
 behind_is [] = refl
 behind_is (t ∷ ts) = let k = count_is ts in omega (arith, k)
 
--- Places of different lengths differ, and a longer one leads to no shorter one.
-pub places_differ : (p q : List Step) → (length p ≡ length q → ⊥) → false ≡ same_place p q
-places_differ [] [] h = absurd (h refl)
-places_differ [] (y ∷ q) h = refl
-places_differ (x ∷ p) [] h = refl
-places_differ (x ∷ p) (y ∷ q) h = by (same_step x y) (places_differ p q (λ e. h (ap suc e)))
-  where
-    by : (b : Bool) → false ≡ same_place p q → false ≡ b && same_place p q
-    by true rest = rest
-    by false rest = refl
-
+-- A longer place leads to no shorter one.
 pub no_way : (p q : List Step) → length q < length p → None ≡ way_from p q
 no_way [] q h = absurd (omega (arith, h))
 no_way (x ∷ p) [] h = refl
@@ -35,63 +25,6 @@ no_way (x ∷ p) (y ∷ q) h = by (same_step x y) (no_way p q (omega (arith, h))
     by : (b : Bool) → None ≡ way_from p q → None ≡ (if b then way_from p q else None)
     by true rest = rest
     by false rest = refl
-
--- The last steps are compared last.
-last_none : (p : List Step) (x : Step) → same_place (p ++ x ∷ []) [] ≡ false
-last_none [] x = refl
-last_none (y ∷ p) x = refl
-
-and_last : (a b c : Bool) → a && (b && c) ≡ (a && b) && c
-and_last true b c = refl
-and_last false b c = refl
-
-nothing_more : (x y z : Step) (q : List Step) → same_step x y && same_place [] (z ∷ q) ≡ false
-nothing_more x y z q = by (same_step x y)
-  where
-    by : (b : Bool) → b && false ≡ false
-    by true = refl
-    by false = refl
-
-same_last : (p q : List Step) (x y : Step) → same_place (p ++ x ∷ []) (q ++ y ∷ []) ≡ same_place p q && same_step x y
-same_last [] [] x y = by (same_step x y)
-  where
-    by : (b : Bool) → b && true ≡ b
-    by true = refl
-    by false = refl
-same_last [] (z ∷ []) x y = nothing_more x z y []
-same_last [] (z ∷ w ∷ q) x y = nothing_more x z w (q ++ y ∷ [])
-same_last (z ∷ []) [] x y = by (same_step z y)
-  where
-    by : (b : Bool) → b && false ≡ false
-    by true = refl
-    by false = refl
-same_last (z ∷ w ∷ p) [] x y = by (same_step z y)
-  where
-    by : (b : Bool) → b && false ≡ false
-    by true = refl
-    by false = refl
-same_last (z ∷ p) (w ∷ q) x y = ap (λ b. same_step z w && b) (same_last p q x y) ∙ and_last (same_step z w) (same_place p q) (same_step x y)
-
--- Places whose last step stands by itself, compared with a list of steps: with none, and from its last one on.
-pub none_left : (v p q : List Step) (x : Step) → v ≡ p ++ x ∷ [] → length q ≡ 0 → false ≡ same_place v q
-none_left v p [] x is h = sym (ap (λ z. same_place z []) is ∙ last_none p x)
-none_left v p (y ∷ q) x is h = cc
-
-pub with_last : (v p q front : List Step) (x y : Step) (r s : Bool) → v ≡ p ++ x ∷ [] → q ≡ front ++ y ∷ [] → r ≡ same_step x y → r ≡ true → s ≡ same_place p front → s ≡ same_place v q
-with_last v p q front x y r s is ends step same rest =
-    rest ∙ sym (ap (λ z. same_place z q) is ∙ ap (λ z. same_place (p ++ x ∷ []) z) ends ∙ same_last p front x y ∙ ap (λ b. same_place p front && b) (sym step ∙ same) ∙ and_true (same_place p front))
-  where
-    and_true : (b : Bool) → b && true ≡ b
-    and_true true = refl
-    and_true false = refl
-
-pub other_last : (v p q front : List Step) (x y : Step) (r : Bool) → v ≡ p ++ x ∷ [] → q ≡ front ++ y ∷ [] → r ≡ same_step x y → r ≡ false → r ≡ same_place v q
-other_last v p q front x y r is ends step other =
-    other ∙ sym (ap (λ z. same_place z q) is ∙ ap (λ z. same_place (p ++ x ∷ []) z) ends ∙ same_last p front x y ∙ ap (λ b. same_place p front && b) (sym step ∙ other) ∙ and_false (same_place p front))
-  where
-    and_false : (b : Bool) → b && false ≡ false
-    and_false true = refl
-    and_false false = refl
 
 -- Two tests, by the first.
 pub and_rest : (a b : Bool) → a ≡ true → b ≡ a && b

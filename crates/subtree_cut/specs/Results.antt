@@ -4,11 +4,10 @@ use Rattle.ld_model.specs.Tree.{Tree}
 use Rattle.expand_model.specs.Scope.{Options, Fault}
 use Rattle.cut_model.specs.Pieces.{Piece}
 use Rattle.cut_model.specs.Grafting.{piece_outcome}
-use Rattle.tree_expand.specs.Answers.{Refuses}
-use Rattle.tree_expand.specs.View.{given_view}
+use Rattle.tree_expand.specs.Outcomes.{Refuses}
+use Rattle.tree_expand.specs.View.{given_view, known_result}
 use Rattle.tree_expand.specs.declared.ranges.Refusal.{Refusal}
 use Rattle.tree_expand.specs.declared.stop.ExpandStop.{ExpandStop}
-use Rattle.tree_expand.specs.declared.stop.ExpandStop.TheVariants.{Refused}
 
 -- The results are those of the pieces from the first one on: of all of them, or of those up to one that has none.
 abbrev pub AreResults : Options → List Piece → List (Result (List Tree) ExpandStop) → Type 0
@@ -17,11 +16,7 @@ AreResults o (x ∷ xs) (Ok ts ∷ results) = (piece_outcome o x ≡ Ok ts) × A
 AreResults o (x ∷ xs) (Err e ∷ results) = Refuses e (piece_outcome o x) × (results ≡ [])
 AreResults o _ _ = ⊥
 
--- A result that isn't want of memory.
-abbrev pub known_result : Result (List Tree) Refusal → Result (List Tree) ExpandStop
-known_result (Ok ts) = Ok ts
-known_result (Err r) = Err (Refused r.code r.place)
-
+-- Results that aren't want of memory.
 abbrev pub known_results : List (Result (List Tree) Refusal) → List (Result (List Tree) ExpandStop)
 known_results ds = map known_result ds
 

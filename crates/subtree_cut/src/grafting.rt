@@ -5,25 +5,22 @@ ghost use Rattle.ld_tree.specs.View.{view};
 ghost use Rattle.ctx_types.specs.declared.context.ActiveContext.{ActiveContext as ContextData};
 ghost use Rattle.expand_model.specs.Expand as expand;
 ghost use Rattle.expand_types.specs.View.{trail_view, word_view};
-ghost use Rattle.cut_model.specs.Pieces.{begins_at, count_behind, same_place};
+ghost use Rattle.cut_model.specs.Pieces.{begins_at, count_behind};
 ghost use Rattle.cut_model.specs.Legal.{IsLegal};
 ghost use Rattle.cut_model.specs.Reached.{IsFaithful};
 ghost use Rattle.cut_model.specs.Grafting as model;
-ghost use Rattle.tree_expand.specs.Answers.{Answers};
+ghost use Rattle.tree_expand.specs.Outcomes.{ComesTo};
 ghost use Rattle.subtree_cut.specs.Results.{AreResults, outcomes_of};
 ghost use Rattle.subtree_cut.specs.View.{piece_view, plan_view};
 
-use crate::document::document_over;
 use crate::plan::{ExpandPiece, ExpandPlan};
 use crate::results::Results;
-use crate::steps::{are_same, is_item, is_key};
 use ctx_store::Store;
 use expand_types::{Options, Trail};
-use ld_json::Step;
 use ld_text::Text;
 use ld_tree::{Tree, Trees};
 use std::alloc::{AllocError, Global};
-use tree_expand::{Asked, At, ExpandStop, Given, Ranges};
+use tree_expand::{Asked, At, ExpandStop, Given, Ranges, document_over, leads_by};
 
 /// Results that are taken in the order of the plan's pieces.
 #[derive(Drop)]
@@ -89,24 +86,7 @@ fn piece_at<'p, 'a>(pieces: &'p [ExpandPiece<'a>], number: usize) -> Option<&'p 
 fn begins(piece: &ExpandPiece<'_>, trail: &Trail<'_>, number: u64) -> bool
     ensures { (contexts : List ContextData) → result ≡ begins_at (trail_view trail.now) number (piece_view contexts piece.now) }
 {
-    piece.from == number && is_at(trail, piece.array.as_slice())
-}
-
-/// Whether a way leads by these steps.
-fn is_at(trail: &Trail<'_>, steps: &[Step]) -> bool
-    ensures { result ≡ same_place (trail_view trail.now) steps.now }
-{
-    match trail {
-        Trail::From(place) => are_same(place.as_slice(), steps),
-        Trail::InKey(before, key) => match steps.split_last() {
-            None => false,
-            Some((step, front)) => is_key(step, key) && is_at(before, front),
-        },
-        Trail::InItem(before, number) => match steps.split_last() {
-            None => false,
-            Some((step, front)) => is_item(step, *number) && is_at(before, front),
-        },
-    }
+    piece.from == number && leads_by(trail, piece.array.as_slice())
 }
 
 /// How many items a piece has behind its first one.
@@ -136,7 +116,7 @@ pub fn graft<'a>(
     requires legal { IsLegal (plan_view plan.now) }
     requires faithful { IsFaithful (record { base = word_view base; contexts = store.now }) (view tree.now) (plan_view plan.now) }
     requires results { AreResults (record { base = word_view base; contexts = store.now }) (plan_view plan.now) results.now }
-    ensures { Answers result (λ ts. ts) (expand.document (record { base = word_view base.entry; contexts = store.now }) (view tree.now)) }
+    ensures { ComesTo result (λ ts. ts) (expand.document (record { base = word_view base.entry; contexts = store.now }) (view tree.now)) }
 {
     let left = Results::copy_of(alloc, results)?;
     grafted(alloc, tree, base, store, plan, left)
@@ -158,7 +138,7 @@ pub fn graft_owned<'a>(
     requires legal { IsLegal (plan_view plan.now) }
     requires faithful { IsFaithful (record { base = word_view base; contexts = store.now }) (view tree.now) (plan_view plan.now) }
     requires results { AreResults (record { base = word_view base; contexts = store.now }) (plan_view plan.now) results.items }
-    ensures { Answers result (λ ts. ts) (expand.document (record { base = word_view base.entry; contexts = store.now }) (view tree.now)) }
+    ensures { ComesTo result (λ ts. ts) (expand.document (record { base = word_view base.entry; contexts = store.now }) (view tree.now)) }
 {
     let left = Results::new(alloc, results)?;
     grafted(alloc, tree, base, store, plan, left)
@@ -175,7 +155,7 @@ fn grafted<'a>(
     requires legal { IsLegal (plan_view plan.now) }
     requires faithful { IsFaithful (record { base = word_view base; contexts = store.now }) (view tree.now) (plan_view plan.now) }
     requires results { model.AreResults (record { base = word_view base; contexts = store.now }) (plan_view plan.now) (outcomes_of left) }
-    ensures { Answers result (λ ts. ts) (expand.document (record { base = word_view base.entry; contexts = store.now }) (view tree.now)) }
+    ensures { ComesTo result (λ ts. ts) (expand.document (record { base = word_view base.entry; contexts = store.now }) (view tree.now)) }
 {
     let options = Options { base, store };
     let mut cursor = Cursor {

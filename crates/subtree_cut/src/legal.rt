@@ -8,8 +8,8 @@ ghost use Rattle.cut_model.specs.LegalTest as test;
 ghost use Rattle.subtree_cut.specs.View.{piece_view, plan_view};
 
 use crate::plan::{ExpandPiece, ExpandPlan};
-use crate::steps::is_same;
 use ld_json::Step;
+use tree_expand::is_same_step;
 
 /// Whether the pieces of a plan have items, share none, and none lies inside another. Any two pieces are compared, so the time that it takes
 /// grows with the square of their number.
@@ -83,7 +83,7 @@ fn way_from<'p>(outer: &[Step], inner: &'p [Step]) -> Option<&'p [Step]>
         return None;
     }
     for (number, step) in outer.iter().enumerate() {
-        if !is_same(step, &inner[number]) {
+        if !is_same_step(step, &inner[number]) {
             return None;
         }
     }

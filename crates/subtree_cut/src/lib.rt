@@ -7,14 +7,12 @@
 
 mod choosing;
 mod cutting;
-mod document;
 mod grafting;
 mod legal;
 mod plan;
 mod planning;
 mod results;
 mod standing;
-mod steps;
 
 pub use cutting::cut;
 pub use grafting::{graft, graft_owned};

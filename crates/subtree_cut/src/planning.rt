@@ -10,7 +10,6 @@ ghost use Rattle.tree_expand.specs.View.{at_view};
 ghost use Rattle.subtree_cut.specs.Choices.{note_view, notes_view, is_want as want};
 
 use crate::choosing::{Choice, choose};
-use crate::document::document_over;
 use crate::standing::{items_at, those_standing};
 use ctx_types::ActiveContext;
 use expand_types::{Options, place_of};
@@ -19,7 +18,7 @@ use ld_text::Text;
 use ld_tree::{Tree, Trees};
 use std::alloc::{AllocError, Global};
 use std::marker::Model;
-use tree_expand::{Asked, At, ExpandStop, Given, Ranges};
+use tree_expand::{Asked, At, ExpandStop, Given, Ranges, document_over};
 
 /// A piece that is noted, with a context of its own, which has the term definitions in common with all others.
 #[derive(Drop)]

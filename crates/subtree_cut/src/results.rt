@@ -1,13 +1,13 @@
 // What the pieces of a plan came to.
 ghost use Rattle.std.specs.Prelude.{◌≡◌, [], ◌∷◌, MatchOption, IfOk};
-ghost use Rattle.subtree_cut.specs.Results.{known_result, known_results};
+ghost use Rattle.tree_expand.specs.View.{known_result};
+ghost use Rattle.subtree_cut.specs.Results.{known_results};
 
-use expand_types::{Trail, place_of};
 use ld_tree::Trees;
 use std::alloc::{AllocError, Global};
 use std::marker::Model;
 use std::vec;
-use tree_expand::{ExpandStop, Refusal};
+use tree_expand::{ExpandStop, Refusal, copied};
 
 /// Results that are left, in the order of their pieces.
 #[derive(Drop)]
@@ -56,7 +56,7 @@ impl Results {
     {
         let mut known = Vec::with_capacity(alloc, results.len())?;
         for outcome in results {
-            known.push(copied(alloc, outcome)?)?;
+            known.push(copied(alloc, outcome.as_ref())?)?;
         }
         Ok(Results {
             rest: known.into_iter(),
@@ -82,33 +82,4 @@ fn known_of(outcome: Result<Trees, ExpandStop>) -> Result<Result<Trees, Refusal>
             ExpandStop::OutOfMemory => Err(AllocError),
         },
     }
-}
-
-/// A copy of a result that is no want of memory.
-fn copied(
-    alloc: Global,
-    outcome: &Result<Trees, ExpandStop>,
-) -> Result<Result<Trees, Refusal>, AllocError>
-    ensures { IfOk result (λ d. known_result d ≡ outcome.now) }
-{
-    match outcome {
-        Ok(trees) => Ok(Ok(copied_trees(alloc, trees)?)),
-        Err(stop) => match stop {
-            ExpandStop::Refused { code, place } => {
-                let place = place_of(alloc, &Trail::From(place))?;
-                Ok(Err(Refusal { code: *code, place }))
-            }
-            ExpandStop::OutOfMemory => Err(AllocError),
-        },
-    }
-}
-
-fn copied_trees(alloc: Global, trees: &Trees) -> Result<Trees, AllocError>
-    ensures { IfOk result (λ ts. ts ≡ trees.now) }
-{
-    let mut copy = Trees::with_capacity(alloc, trees.len())?;
-    for tree in trees {
-        copy.push(tree.copy(alloc)?)?;
-    }
-    Ok(copy)
 }

@@ -1,2 +1,4 @@
-mod Steps
+pub mod Steps
 mod Walks
+mod Known
+pub mod PlaceLemmas

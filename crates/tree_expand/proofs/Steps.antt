@@ -6,14 +6,14 @@ use Rattle.expand_model.specs.Over.{Outcome, here}
 use Rattle.range_laws.specs.Right.{outcome}
 use Rattle.tree_expand.specs.declared.stop.ExpandStop.{ExpandStop}
 use Rattle.tree_expand.specs.declared.stop.ExpandStop.TheVariants.{Refused, OutOfMemory}
-use Rattle.tree_expand.specs.Answers.{Refuses, Answers, Leaves, Gives}
+use Rattle.tree_expand.specs.Outcomes.{Refuses, ComesTo, Leaves, Gives}
 
 -- The answer, carried along an equation.
 pub gives_of : {X B S : Type 0} (r : Result X ExpandStop) (f : X → B) (s : S) {d d′ : Outcome S B} → d ≡ d′ → Gives r f s d′ → Gives r f s d
 gives_of r f s p h = subst (λ x. Gives r f s x) (sym p) h
 
 -- That of a call that needs no state.
-pub gives_here : {X B S : Type 0} (r : Result X ExpandStop) (f : X → B) (s : S) (d : Result B Fault) → Answers r f d → Gives r f s (here s d)
+pub gives_here : {X B S : Type 0} (r : Result X ExpandStop) (f : X → B) (s : S) (d : Result B Fault) → ComesTo r f d → Gives r f s (here s d)
 gives_here (Ok x) f s d h = ap (here s) h
 gives_here (Err (Refused c p)) f s d h = ap (here s) h
 gives_here (Err OutOfMemory) f s d h = tt
@@ -35,7 +35,7 @@ pub gives_refused : {X A B S : Type 0} (r : Result X ExpandStop) (e : ExpandStop
 gives_refused r e f s d k is h = subst (λ x. Gives x f s (here s d >>= k)) (sym is) (refuses_then e s d k h)
 
 -- The answer without the state.
-pub answers_of : {X V S : Type 0} (r : Result X ExpandStop) (f : X → V) (s : S) (m : Outcome S V) (d : Result V Fault) → outcome m ≡ d → Gives r f s m → Answers r f d
+pub answers_of : {X V S : Type 0} (r : Result X ExpandStop) (f : X → V) (s : S) (m : Outcome S V) (d : Result V Fault) → outcome m ≡ d → Gives r f s m → ComesTo r f d
 answers_of (Ok x) f s m d p h = sym p ∙ ap outcome h
 answers_of (Err (Refused c q)) f s m d p h = sym p ∙ ap outcome h
 answers_of (Err OutOfMemory) f s m d p h = tt

@@ -1,3 +1,4 @@
-pub mod Answers
+pub mod Outcomes
 pub mod View
 pub mod Walked
+pub mod Known

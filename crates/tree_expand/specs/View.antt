@@ -8,6 +8,8 @@ use Rattle.expand_types.specs.View.{scope_view, map_scope_view, trail_view}
 use Rattle.tree_expand.specs.declared.at.At.{At}
 use Rattle.tree_expand.specs.declared.at.Inside.{Inside}
 use Rattle.tree_expand.specs.declared.ranges.Refusal.{Refusal}
+use Rattle.tree_expand.specs.declared.stop.ExpandStop.{ExpandStop}
+use Rattle.tree_expand.specs.declared.stop.ExpandStop.TheVariants.{Refused}
 use Rattle.tree_expand.specs.declared.ranges.Asked.{Asked}
 use Rattle.tree_expand.specs.declared.ranges.Asked.TheVariants.{Expands, Tries, Answers}
 
@@ -21,6 +23,11 @@ inside_view e = record { scope = map_scope_view e.scope; place = trail_view e.tr
 abbrev pub given_view : Result (List Tree) Refusal → Result (List Tree) Fault
 given_view (Ok ts) = Ok ts
 given_view (Err r) = Err (record { code = r.code; place = r.place })
+
+-- The same, as callers of expansion have it.
+abbrev pub known_result : Result (List Tree) Refusal → Result (List Tree) ExpandStop
+known_result (Ok ts) = Ok ts
+known_result (Err r) = Err (Refused r.code r.place)
 
 abbrev pub asked_view : Asked → Answer
 asked_view Expands = expands

@@ -6,7 +6,7 @@ ghost use Rattle.ctx_types.specs.ContextView.{context_view};
 ghost use Rattle.expand_model.specs.Expand as expand;
 ghost use Rattle.expand_model.specs.Over as over;
 ghost use Rattle.expand_types.specs.View.{options_view, word_view};
-ghost use Rattle.tree_expand.specs.Answers.{Answers, Gives};
+ghost use Rattle.tree_expand.specs.Outcomes.{ComesTo, Gives};
 
 use crate::at::At;
 use crate::ranges::{NoRanges, Ranges};
@@ -35,16 +35,21 @@ pub fn expand_document<'a>(
     base: Option<&'a Text>,
     store: &'a Store,
 ) -> Result<Trees, ExpandStop>
-    ensures { Answers result (λ ts. ts) (expand.document (record { base = word_view base.entry; contexts = store.now }) (view tree.now)) }
+    ensures { ComesTo result (λ ts. ts) (expand.document (record { base = word_view base.entry; contexts = store.now }) (view tree.now)) }
 {
     let options = Options { base, store };
     let mut ranges = NoRanges {};
     document_over(alloc, &options, &mut ranges, tree)
 }
 
-/// Expands a document, whose ranges may be answered from elsewhere.
+/// Expands a document, whose ranges may be answered from elsewhere, with what `ranges` answers for each item that is asked for.
+///
+/// # Errors
+///
+/// - `Refused` where expansion fails: the first error in ascending order of keys, or the first one that `ranges` answers.
+/// - `OutOfMemory` where memory is refused, or context processing has too many calls under way.
 #[tactic(auto, unfolding(expand_model::specs::Over::document_over))]
-fn document_over<R: Ranges>(
+pub fn document_over<R: Ranges>(
     alloc: Global,
     options: &Options<'_>,
     ranges: &mut R,
@@ -88,7 +93,7 @@ pub fn expand_range<'a>(
     place: &'a Place,
 ) -> Result<Trees, ExpandStop>
     requires { first + length items.now < 2 ^ 64 }
-    ensures { Answers result (λ ts. ts) (expand.items (record { base = word_view base.entry; contexts = store.now })
+    ensures { ComesTo result (λ ts. ts) (expand.items (record { base = word_view base.entry; contexts = store.now })
         (trees_of (trees_view items.now)) first
         (record { scope = record { context = context_view context.now; property = word_view property.entry; from_map = from_map }; place = place.now }) []) }
 {

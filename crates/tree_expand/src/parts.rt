@@ -10,7 +10,7 @@ ghost use Rattle.expand_types.specs.Answers as part;
 ghost use Rattle.expand_types.specs.View.{definition_in, options_view, scope_view, trail_view};
 ghost use Rattle.expand_contexts.specs.Memo.{MayRecall};
 ghost use Rattle.expand_contexts.specs.View.{active_view, entered_view};
-ghost use Rattle.tree_expand.specs.Answers.{Answers, IsAt, IsStopAt, Refuses};
+ghost use Rattle.tree_expand.specs.Outcomes.{ComesTo, IsAt, IsStopAt, Refuses};
 ghost use Rattle.tree_expand.specs.View.{at_view, inside_view};
 
 use crate::at::{At, Inside};
@@ -60,7 +60,7 @@ pub(crate) fn scalar(
 ) -> Result<Tree, ExpandStop>
     requires { MayRecall (options_view options.now) (scope_view at.now.scope) memo.old }
     ensures recalls { MayRecall (options_view options.now) (scope_view at.now.scope) memo.new }
-    ensures value { Answers result view (rules.scalar_at (options_view options.now) (view value.now) (at_view at.now)) }
+    ensures value { ComesTo result view (rules.scalar_at (options_view options.now) (view value.now) (at_view at.now)) }
 {
     let outcome = scalar_in(alloc, options, &at.scope, memo, value);
     at_end(alloc, at.trail, outcome)
@@ -111,7 +111,7 @@ pub(crate) fn entered<'s, 'x>(
 ) -> Result<Entered<'s>, ExpandStop>
     requires { MayRecall (options_view options.now) (scope_view at.now.scope) memo.old }
     ensures recalls { MayRecall (options_view options.now) (scope_view at.now.scope) memo.new }
-    ensures entered { Answers result (λ e. record { scope = entered_view e; place = (at_view at.now).place })
+    ensures entered { ComesTo result (λ e. record { scope = entered_view e; place = (at_view at.now).place })
         (rules.entered_at (options_view options.now) members.now (at_view at.now)) }
 {
     let outcome = enter(alloc, options, &at.scope, memo, members);
@@ -120,7 +120,7 @@ pub(crate) fn entered<'s, 'x>(
 
 /// What a map comes to. An error is at the map.
 pub(crate) fn finished(alloc: Global, at: &At<'_>, made: Draft) -> Result<Tree, ExpandStop>
-    ensures { Answers result view (rules.finished_at (at_view at.now) made) }
+    ensures { ComesTo result view (rules.finished_at (at_view at.now) made) }
 {
     let outcome = finish(alloc, made, at.scope.property);
     at_end(alloc, at.trail, outcome)
@@ -134,7 +134,7 @@ pub(crate) fn begun<'x>(
     name: &Name,
     made: &Draft,
 ) -> Result<(), ExpandStop>
-    ensures { Answers result (λ x. x) (rules.begun_at name.now key.now (inside_view inside.now) made.now) }
+    ensures { ComesTo result (λ x. x) (rules.begun_at name.now key.now (inside_view inside.now) made.now) }
 {
     let outcome = begin(inside.scope.property, name, made);
     at_end(alloc, &Trail::InKey(inside.trail, key), outcome)
@@ -150,7 +150,7 @@ pub(crate) fn told<'x>(
     value: &Tree,
     made: Draft,
 ) -> Result<Draft, ExpandStop>
-    ensures { Answers result (λ d. d) (rules.told_at name.now (definition_in definition.entry) key.now (view value.now) (inside_view inside.now) made) }
+    ensures { ComesTo result (λ d. d) (rules.told_at name.now (definition_in definition.entry) key.now (view value.now) (inside_view inside.now) made) }
 {
     let outcome = tell(alloc, &inside.scope, definition, name, value, made);
     at_end(alloc, &Trail::InKey(inside.trail, key), outcome)
@@ -166,7 +166,7 @@ pub(crate) fn added<'x>(
     outcome: Tree,
     made: Draft,
 ) -> Result<Draft, ExpandStop>
-    ensures { Answers result (λ d. d) (rules.added_at name (definition_in definition.entry) key.now (view outcome) (inside_view inside.now) made) }
+    ensures { ComesTo result (λ d. d) (rules.added_at name (definition_in definition.entry) key.now (view outcome) (inside_view inside.now) made) }
 {
     let outcome = add(alloc, definition, name, outcome, made);
     at_end(alloc, &Trail::InKey(inside.trail, key), outcome)
@@ -180,7 +180,7 @@ pub(crate) fn index_active<'s>(
     key: &'s str,
     index: &str,
 ) -> Result<Active<'s>, ExpandStop>
-    ensures { Answers result (λ c. record { scope = index_under (active_view c) key.now; place = in_key index.now (in_key key.now (inside_view inside.now).place) })
+    ensures { ComesTo result (λ c. record { scope = index_under (active_view c) key.now; place = in_key index.now (in_key key.now (inside_view inside.now).place) })
         (rules.index_at (options_view options.now) index.now key.now (inside_view inside.now)) }
 {
     let context = inside.scope.context;
@@ -210,7 +210,7 @@ pub(crate) fn indexed<'x>(
     outcome: Tree,
     out: Trees,
 ) -> Result<Trees, ExpandStop>
-    ensures { Answers result (λ ts. ts) (rules.indexed_at index.now key.now (view value.now) (view outcome) (at_view at.now) (inside_view inside.now) out) }
+    ensures { ComesTo result (λ ts. ts) (rules.indexed_at index.now key.now (view value.now) (view outcome) (at_view at.now) (inside_view inside.now) out) }
 {
     let context = inside.scope.context;
     let definition = context.terms.get(key);
@@ -228,7 +228,7 @@ pub(crate) fn nestable<'x>(
     key: &'x str,
     members: &Members,
 ) -> Result<(), ExpandStop>
-    ensures { Answers result (λ x. x) (rules.nestable members.now key.now (inside_view inside.now)) }
+    ensures { ComesTo result (λ x. x) (rules.nestable members.now key.now (inside_view inside.now)) }
 {
     if has_key(inside.scope.context, "@value", members) {
         return Err(not_nestable(alloc, inside, key));

@@ -6,7 +6,7 @@ ghost use Rattle.ld_tree.specs.View.{trees_view, view};
 ghost use Rattle.expand_model.specs.Over as over;
 ghost use Rattle.expand_types.specs.View.{definition_in, map_scope_view, options_view, scope_view};
 ghost use Rattle.expand_contexts.specs.Memo.{MayRecall};
-ghost use Rattle.tree_expand.specs.Answers.{Gives};
+ghost use Rattle.tree_expand.specs.Outcomes.{Gives};
 ghost use Rattle.tree_expand.specs.View.{at_view, inside_view};
 ghost use Rattle.tree_expand.specs.Walked.{walked};
 
@@ -32,7 +32,7 @@ use std::alloc::Global;
 /// - `Refused` where expansion fails: the first error in ascending order of keys, or the first one that `ranges` answers.
 /// - `OutOfMemory` where memory is refused.
 #[cycle(expansion)]
-pub fn element<'x, R: Ranges>(
+pub(crate) fn element<'x, R: Ranges>(
     alloc: Global,
     options: &Options<'_>,
     ranges: &mut R,

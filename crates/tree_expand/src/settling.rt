@@ -4,7 +4,7 @@ ghost use Rattle.ld_model.specs.Tree.{trees_of, Tree as TreeData};
 ghost use Rattle.ld_tree.specs.View.{trees_view, view};
 ghost use Rattle.expand_model.specs.Over as over;
 ghost use Rattle.expand_model.specs.Rules.{lists_at};
-ghost use Rattle.tree_expand.specs.Answers.{Gives};
+ghost use Rattle.tree_expand.specs.Outcomes.{Gives};
 ghost use Rattle.tree_expand.specs.View.{at_view};
 
 use crate::at::At;

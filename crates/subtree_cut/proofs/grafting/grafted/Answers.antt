@@ -3,7 +3,8 @@ use Rattle.ld_tree.specs.View.{view}
 use Rattle.expand_types.specs.View.{word_view}
 use Rattle.subtree_cut.specs.View.{plan_view}
 use Rattle.subtree_cut.specs.Results.{outcomes_of}
-use Rattle.subtree_cut.proofs.InOrder.{answers_of, cursor_run}
+use Rattle.tree_expand.proofs.Steps.{answers_of}
+use Rattle.subtree_cut.proofs.InOrder.{cursor_run}
 use Rattle.subtree_cut.proofs.grafting.grafted.Goals as goal
 
 pub returns : goal.returns

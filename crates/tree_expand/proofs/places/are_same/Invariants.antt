@@ -1,6 +1,6 @@
 use Rattle.std.proofs.Common.{◌≡◌, length, drop}
 use Rattle.cut_model.specs.Pieces.{same_place}
-use Rattle.subtree_cut.proofs.steps.are_same.Given as goal
+use Rattle.tree_expand.proofs.places.are_same.Given as goal
 
 abbrev pub invariant-loop-number : goal.invariant-loop-number
 invariant-loop-number l =

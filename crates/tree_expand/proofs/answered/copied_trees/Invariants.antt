@@ -1,5 +1,5 @@
 use Rattle.std.proofs.Common.{◌≡◌, ◌++◌}
-use Rattle.subtree_cut.proofs.results.copied_trees.Given as goal
+use Rattle.tree_expand.proofs.answered.copied_trees.Given as goal
 
 abbrev pub invariant-loop-tree : goal.invariant-loop-tree
 invariant-loop-tree l = l.copy ++ l.tree-iterator ≡ l.initial.tree-iterator

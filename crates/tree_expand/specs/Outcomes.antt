@@ -14,9 +14,9 @@ Refuses (Refused c p) d = d ≡ Err (record { code = c; place = p })
 Refuses OutOfMemory d = Unit {0}
 
 -- The value is the definition's.
-abbrev pub Answers : {X V : Type 0} → Result X ExpandStop → (X → V) → Result V Fault → Type 0
-Answers (Ok x) f d = d ≡ Ok (f x)
-Answers (Err e) f d = Refuses e d
+abbrev pub ComesTo : {X V : Type 0} → Result X ExpandStop → (X → V) → Result V Fault → Type 0
+ComesTo (Ok x) f d = d ≡ Ok (f x)
+ComesTo (Err e) f d = Refuses e d
 
 -- Of a call that leaves a state: a refusal is the definition's, with its place, and so is the state that it leaves.
 abbrev pub Leaves : {Y S : Type 0} → ExpandStop → S → Outcome S Y → Type 0
