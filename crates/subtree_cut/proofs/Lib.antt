@@ -3,3 +3,4 @@ mod Outside
 mod InOrder
 mod Weighed
 mod Noted
+mod Each

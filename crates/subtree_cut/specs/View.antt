@@ -15,13 +15,16 @@ abbrev pub context_or_empty : Option ActiveContext → Context
 context_or_empty None = initial None
 context_or_empty (Some c) = context_view c
 
--- A piece, by the contexts of its plan.
-abbrev pub piece_view : List ActiveContext → ExpandPiece → Piece
-piece_view contexts x = record {
-  at = record { scope = record { context = context_or_empty (slice_get contexts x.context); property = x.property; from_map = x.from_map }; place = x.array };
+-- A piece, with this context, and by the contexts of its plan.
+abbrev pub piece_in : Context → ExpandPiece → Piece
+piece_in c x = record {
+  at = record { scope = record { context = c; property = x.property; from_map = x.from_map }; place = x.array };
   from = x.from;
   items = trees_of (trees_view x.items.now);
 }
+
+abbrev pub piece_view : List ActiveContext → ExpandPiece → Piece
+piece_view contexts x = piece_in (context_or_empty (slice_get contexts x.context)) x
 
 -- The pieces of a plan.
 abbrev pub plan_view : ExpandPlan → List Piece

@@ -5,8 +5,10 @@
 //! whether the pieces of a plan are apart. Contracts see a plan by `plan_view` as the pieces that `cut_model` defines.
 #![tactic(auto)]
 
+mod ascending;
 mod choosing;
 mod cutting;
+mod expanding;
 mod grafting;
 mod legal;
 mod plan;
@@ -15,6 +17,7 @@ mod results;
 mod standing;
 
 pub use cutting::cut;
+pub use expanding::expand_by_weight;
 pub use grafting::{graft, graft_owned};
 pub use legal::is_legal;
 pub use plan::{ExpandPiece, ExpandPlan};
