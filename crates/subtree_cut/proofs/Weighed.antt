@@ -12,7 +12,7 @@ use Rattle.subtree_cut.specs.Choices.{chosen_of}
 use Rattle.subtree_cut.proofs.Lists.{count_is}
 
 -- Only the sum that is capped counts.
-taken_same : (limit a b : ℕ) (ts : model.Trees) → min a (2 ^ 64 - 1) ≡ min b (2 ^ 64 - 1) → taken_behind limit a ts ≡ taken_behind limit b ts
+pub taken_same : (limit a b : ℕ) (ts : model.Trees) → min a (2 ^ 64 - 1) ≡ min b (2 ^ 64 - 1) → taken_behind limit a ts ≡ taken_behind limit b ts
 taken_same limit a b no_trees h = refl
 taken_same limit a b (tree t ts) h =
     let more : min (a + weight t) (2 ^ 64 - 1) ≡ min (b + weight t) (2 ^ 64 - 1) = omega (arith, h) in
@@ -29,9 +29,6 @@ takes_next limit sum more ts i t within at same light =
     ap (λ xs. taken_behind limit sum (trees_of (trees_view xs))) (next_item ts i t within at)
     ∙ ap (λ b. if b then suc (taken_behind limit (sum + weight (view t)) (trees_of (trees_view (drop (i + 1) ts)))) else 0) light
     ∙ ap suc (taken_same limit (sum + weight (view t)) more (trees_of (trees_view (drop (i + 1) ts))) (sym same))
-
-pub taken_capped : (limit n : ℕ) (ts : model.Trees) → taken_behind limit (min n (2 ^ 64 - 1)) ts ≡ taken_behind limit n ts
-taken_capped limit n ts = taken_same limit (min n (2 ^ 64 - 1)) n ts (omega arith)
 
 pub one_on : (n k : ℕ) → n + 1 + k ≡ n + suc k
 one_on n k = omega arith

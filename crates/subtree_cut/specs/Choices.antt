@@ -1,5 +1,5 @@
 -- What is done with an item, as the code has it.
-use Rattle.std.specs.Prelude.{ℕ, List, map, Bool, true, false, Result, Ok, Err}
+use Rattle.std.specs.Prelude.{ℕ, ◌+◌, ◌-◌, ◌^◌, min, List, map, Bool, true, false, Result, Ok, Err}
 use Rattle.ld_model.specs.Tree.{Trees, no_trees, tree, trees_of}
 use Rattle.ld_tree.specs.View.{trees_view}
 use Rattle.ctx_types.specs.ContextView.{context_view}
@@ -11,6 +11,10 @@ use Rattle.tree_expand.specs.declared.stop.ExpandStop.TheVariants.{Refused, OutO
 use Rattle.subtree_cut.specs.declared.choosing.Choice.{Choice}
 use Rattle.subtree_cut.specs.declared.choosing.Choice.TheVariants.{Walks, Tries, Passes, Takes}
 use Rattle.subtree_cut.specs.declared.planning.Note.{Note}
+
+-- Sums are told apart up to this one: the first above the limit, or the greatest.
+abbrev pub end_of : ℕ → ℕ
+end_of limit = min (limit + 1) (2 ^ 64 - 1)
 
 abbrev pub choice_view : Choice → model.Choice
 choice_view Walks = walks_item

@@ -5,7 +5,8 @@ ghost use Rattle.ld_tree.specs.View.{trees_view, view};
 ghost use Rattle.cut_model.specs.Planning as model;
 ghost use Rattle.subtree_cut.specs.Choices.{choice_view, chosen_of};
 
-use ld_tree::{Tree, weight};
+use crate::weighing::with_weight;
+use ld_tree::Tree;
 
 /// What is done with an item.
 #[derive(Clone, Copy)]
@@ -50,7 +51,7 @@ fn heavy_choice(limit: u64, first: &Tree, behind: &[Tree]) -> Choice
 fn cut_choice(limit: u64, first: &Tree, behind: &[Tree]) -> Choice
     ensures { choice_view result ≡ model.cut_choice limit (view first.now) (trees_of (trees_view behind.now)) }
 {
-    let weighed = weight(first);
+    let weighed = with_weight(limit, 0, first);
     if weighed <= limit {
         return Choice::Takes(taken_behind(limit, weighed, behind));
     }
@@ -63,7 +64,7 @@ fn taken_behind(limit: u64, sum: u64, behind: &[Tree]) -> usize
 {
     let mut sum = sum;
     for (number, item) in behind.iter().enumerate() {
-        sum = sum.saturating_add(weight(item));
+        sum = with_weight(limit, sum, item);
         if sum > limit {
             return number;
         }
@@ -77,7 +78,7 @@ fn is_light(limit: u64, items: &[Tree]) -> bool
 {
     let mut sum = 1u64;
     for item in items {
-        sum = sum.saturating_add(weight(item));
+        sum = with_weight(limit, sum, item);
         if sum > limit {
             return false;
         }

@@ -15,6 +15,7 @@ mod plan;
 mod planning;
 mod results;
 mod standing;
+mod weighing;
 
 pub use cutting::cut;
 pub use expanding::expand_by_weight;

@@ -7,10 +7,9 @@ use Rattle.subtree_cut.proofs.choosing.taken_behind.Goals as goal
 
 pub loop-number-preserved : goal.loop-number-preserved
 loop-number-preserved c =
-    let weighed = c.weight.ensures in
-    let sum = c.saturating_add-sum.ensures in
-    let same : min c.saturating_add-sum.result (2 ^ 64 - 1) ≡ min (c.loop-number.sum + weight (view c.index-behind-number.result)) (2 ^ 64 - 1) = grind (arith, weighed, sum) in
-    let light : is_light c.args.limit (c.loop-number.sum + weight (view c.index-behind-number.result)) ≡ true = grind (arith, weighed, sum, c.if-sum-limit.false) in
+    let weighed = c.with_weight-sum.ensures in
+    let same : min c.with_weight-sum.result (2 ^ 64 - 1) ≡ min (c.loop-number.sum + weight (view c.index-behind-number.result)) (2 ^ 64 - 1) = grind (arith, weighed, c.if-sum-limit.false) in
+    let light : is_light c.args.limit (c.loop-number.sum + weight (view c.index-behind-number.result)) ≡ true = grind (arith, weighed, c.if-sum-limit.false) in
     one_on c.loop-number.number _
-    ∙ ap (λ n. c.loop-number.number + n) (sym (takes_next c.args.limit c.loop-number.sum c.saturating_add-sum.result c.args.behind.now c.loop-number.number c.index-behind-number.result c.loop-number-test.true c.index-behind-number.is same light))
+    ∙ ap (λ n. c.loop-number.number + n) (sym (takes_next c.args.limit c.loop-number.sum c.with_weight-sum.result c.args.behind.now c.loop-number.number c.index-behind-number.result c.loop-number-test.true c.index-behind-number.is same light))
     ∙ c.loop-number.invariant
