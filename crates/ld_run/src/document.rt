@@ -13,7 +13,7 @@ use ld_json::{Text, Tree, Trees, read_tree, text_of};
 use node_parts::node_map_by_parts;
 use std::alloc::{AllocError, Global};
 use std::mem;
-use tree_expand::expand_document;
+use subtree_cut::expand_by_weight;
 
 /// The items that an order gives for a document, with the contexts of the store. What a stage no longer needs is let go before the
 /// next one grows: the bytes once the tree stands, the tree and the store once the items are expanded.
@@ -25,8 +25,9 @@ pub(crate) fn items_for(
 ) -> Result<Trees, Stop>
     ensures { Answers result (items_for order store bytes.items) }
 {
+    let weight = order.weight();
     let Order { command, base, .. } = order;
-    let items = expanded(alloc, base, store, bytes)?;
+    let items = expanded(alloc, base, weight, store, bytes)?;
     given(alloc, command, items)
 }
 
@@ -41,12 +42,18 @@ pub(crate) fn text_line(alloc: Global, items: Trees) -> Result<Vec<u8>, AllocErr
     Ok(text)
 }
 
-/// The expanded items of a document (JSON-LD 1.1 API, section 9.1.2, expand).
-fn expanded(alloc: Global, base: Option<Text>, store: Store, bytes: Vec<u8>) -> Result<Trees, Stop>
+/// The expanded items of a document (JSON-LD 1.1 API, section 9.1.2, expand), which is cut by this weight.
+fn expanded(
+    alloc: Global,
+    base: Option<Text>,
+    weight: u64,
+    store: Store,
+    bytes: Vec<u8>,
+) -> Result<Trees, Stop>
     ensures { Answers result (expanded base store bytes.items) }
 {
     let tree = parsed(alloc, bytes)?;
-    let items = expand_document(alloc, &tree, base.as_ref(), &store)?;
+    let items = expand_by_weight(alloc, &tree, base.as_ref(), &store, weight)?;
     Ok(items)
 }
 

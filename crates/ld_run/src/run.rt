@@ -25,8 +25,10 @@ use std::alloc::Global;
 ///
 /// The first word is a command. `expand` gives the expanded form of the source's document (JSON-LD 1.1 API, section 5.1), and `flatten`
 /// its flattened form (section 7.1), as compact JSON with a line feed. Behind it come options in any order, each at most once:
-/// `--base IRI` or `--base=IRI`, split at the first `=`, for the document's base URL, a well-formed IRI; and `--contexts`, with which
-/// the document may name the contexts of the folder (`ctx_store::load`). Without `--contexts` the folder isn't touched.
+/// `--base IRI` or `--base=IRI`, split at the first `=`, for the document's base URL, a well-formed IRI; `--contexts`, with which
+/// the document may name the contexts of the folder (`ctx_store::load`); and `--weight W` or `--weight=W`, a number from 1 to 1,000,000, for about
+/// how many values the pieces have into which the document is cut, which is 2,000 without it and has no say in what is written. Without
+/// `--contexts` the folder isn't touched.
 ///
 /// The status is `Done` where the due bytes were written and `out` was finished. Each other status leaves `out` as it
 /// was, but for `WriteFault`, which may leave some front of the due bytes there; and it appends its line to `err` and

@@ -1,10 +1,16 @@
 // The order that the program's words give.
 ghost use Rattle.std.specs.Prelude.{◌≡◌, ◌≤◌, ◌∷◌, List, length, None, IfOk, IfSome, MatchOption};
-ghost use Rattle.ld_run.specs.Words.{words_of, command_of, plain_order, with_base, with_contexts, with_options, with_setting, with_first, order_of};
+ghost use Rattle.ld_run.specs.Words.{words_of, command_of, plain_order, with_base, with_contexts, with_options, with_setting, with_weight, with_word, with_first, order_of, number_with, weight_of};
 
 use iri_ref::is_well_formed;
 use ld_json::Text;
 use std::alloc::{AllocError, Global};
+
+/// The weight of the pieces where the words name none.
+const USUAL_WEIGHT: u64 = 2000;
+
+/// The greatest weight that words may name.
+const GREATEST_WEIGHT: u64 = 1_000_000;
 
 /// What the program is to write.
 #[derive(Clone, Copy)]
@@ -23,6 +29,8 @@ pub(crate) struct Order {
     pub(crate) base: Option<Text>,
     /// Whether the document may name the contexts of the folder.
     pub(crate) contexts: bool,
+    /// About how many values a piece has into which the document is cut, where the words say it: 1 to 1,000,000.
+    pub(crate) weight: Option<u64>,
 }
 
 /// An option, as the words have it.
@@ -30,6 +38,7 @@ pub(crate) struct Order {
 pub(crate) enum Setting<'a> {
     Base(&'a str),
     Contexts,
+    Weight(&'a str),
 }
 
 /// The order that the words give: a command, and its options in any order, each at most once. None where they give none.
@@ -84,18 +93,67 @@ fn setting_of<'a>(word: &'a str, behind: &'a [String]) -> Option<(Setting<'a>, &
         let (value, behind) = behind.split_first()?;
         return Some((Setting::Base(value.as_str()), behind));
     }
+    if word == "--weight" {
+        let (value, behind) = behind.split_first()?;
+        return Some((Setting::Weight(value.as_str()), behind));
+    }
+    let setting = lone_setting_of(word)?;
+    Some((setting, behind))
+}
+
+/// The option that one word is.
+fn lone_setting_of(word: &str) -> Option<Setting<'_>>
+    ensures { (o : Order) → MatchOption result (with_word o word.now ≡ None) (λ s. with_word o word.now ≡ with_setting o s) }
+{
     if word == "--contexts" {
-        return Some((Setting::Contexts, behind));
+        return Some(Setting::Contexts);
     }
     let (name, value) = word.split_once('=')?;
     if name == "--base" {
-        Some((Setting::Base(value), behind))
-    } else {
-        None
+        return Some(Setting::Base(value));
     }
+    if name == "--weight" {
+        return Some(Setting::Weight(value));
+    }
+    None
+}
+
+/// The weight that a word is.
+fn weight_of(word: &str) -> Option<u64>
+    ensures { result ≡ weight_of word.now }
+{
+    let (first, rest) = word.as_bytes().split_first()?;
+    if *first < b'1' || *first > b'9' {
+        return None;
+    }
+    number_with((*first - b'0') as u64, rest)
+}
+
+/// The number of digits that follow one another, where it is no greater weight than words may name; `number` is that of those before.
+fn number_with(number: u64, digits: &[u8]) -> Option<u64>
+    ensures { result ≡ number_with number digits.now }
+{
+    if number > GREATEST_WEIGHT {
+        return None;
+    }
+    let Some((digit, rest)) = digits.split_first() else {
+        return Some(number);
+    };
+    if *digit < b'0' || *digit > b'9' {
+        return None;
+    }
+    number_with(number * 10 + (*digit - b'0') as u64, rest)
 }
 
 impl Order {
+    /// The weight of the pieces into which the document is cut.
+    pub(crate) fn weight(&self) -> u64 {
+        match self.weight {
+            None => USUAL_WEIGHT,
+            Some(weight) => weight,
+        }
+    }
+
     /// A command without options.
     fn of(command: Command) -> Order
         ensures { result ≡ plain_order command }
@@ -104,6 +162,7 @@ impl Order {
             command,
             base: None,
             contexts: false,
+            weight: None,
         }
     }
 
@@ -114,6 +173,7 @@ impl Order {
         match setting {
             Setting::Base(iri) => self.with_base(alloc, iri),
             Setting::Contexts => Ok(self.with_contexts()),
+            Setting::Weight(word) => Ok(self.with_weight(word)),
         }
     }
 
@@ -125,6 +185,16 @@ impl Order {
         }
         let base = Some(Text::new(alloc, iri)?);
         Ok(Some(Order { base, ..self }))
+    }
+
+    fn with_weight(self, word: &str) -> Option<Order>
+        ensures { result ≡ with_weight self word.now }
+    {
+        if self.weight.is_some() {
+            return None;
+        }
+        let weight = Some(weight_of(word)?);
+        Some(Order { weight, ..self })
     }
 
     fn with_contexts(self) -> Option<Order>
