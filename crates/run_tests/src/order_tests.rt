@@ -41,7 +41,22 @@ flatten --base=http://e/ --contexts --base=http://f/
 flatten --bas http://e/
 flatten --bas=http://e/
 flatten --base=http://e/ http://e/
-flatten --base = http://e/";
+flatten --base = http://e/
+flatten --weight
+flatten --weight=
+flatten --weight 0
+flatten --weight=0
+flatten --weight 1000001
+flatten --weight 1000000000000000000000001
+flatten --weight 01
+flatten --weight +1
+flatten --weight -1
+flatten --weight 1x
+flatten --weight 1.0
+flatten --weight 2 --weight 2
+flatten --weight=2 --weight 3
+flatten --weight --contexts
+flatten --weigh 2";
 
 // On each line words that give an order.
 const ORDERS: &str = "flatten
@@ -54,7 +69,12 @@ expand --base=e:?a=b
 flatten --base http://e/ --contexts
 flatten --contexts --base http://e/
 flatten --contexts --base=http://e/
-expand --base=http://e/ --contexts";
+expand --base=http://e/ --contexts
+flatten --weight 1
+expand --weight=1
+flatten --weight 1000000
+flatten --weight=999999 --base http://e/ --contexts
+expand --contexts --weight 10 --base=http://e/";
 
 // What is left of a source and a folder whose first calls fail: the first fault that each still gives.
 fn is_untouched(alloc: Global, source: &mut ListSource) -> bool {
@@ -83,7 +103,7 @@ fn words_that_give_no_order_are_refused_before_anything_is_read(
         let untouched = is_untouched(alloc, &mut source) && is_folder_untouched(alloc, &mut folder);
         assert!(rt; untouched, "{words}");
     }
-    assert!(rt; NO_ORDERS.lines().count() == 38);
+    assert!(rt; NO_ORDERS.lines().count() == 53);
     Ok(())
 }
 
@@ -101,7 +121,7 @@ fn words_that_give_an_order_have_the_source_read(rt: HostRuntime) -> Result<(), 
             "{words}"
         );
     }
-    assert!(rt; ORDERS.lines().count() == 11);
+    assert!(rt; ORDERS.lines().count() == 16);
     Ok(())
 }
 
