@@ -1,0 +1,5 @@
+pub mod Vocabulary
+pub mod Literal
+pub mod SameQuad
+pub mod ToRdf
+pub mod Subjects
