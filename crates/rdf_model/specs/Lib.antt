@@ -3,3 +3,4 @@ pub mod Literal
 pub mod SameQuad
 pub mod ToRdf
 pub mod Subjects
+pub mod Needs
