@@ -28,7 +28,7 @@ pub(crate) fn items_for(
     let weight = order.weight();
     let Order { command, base, .. } = order;
     let items = expanded(alloc, base, weight, store, bytes)?;
-    given(alloc, command, items)
+    given(alloc, command, weight, items)
 }
 
 /// The compact text of an array of these items, with a line feed.
@@ -66,21 +66,21 @@ fn parsed(alloc: Global, bytes: Vec<u8>) -> Result<Tree, Stop>
 }
 
 /// What a command gives of expanded items.
-fn given(alloc: Global, command: Command, items: Trees) -> Result<Trees, Stop>
+fn given(alloc: Global, command: Command, weight: u64, items: Trees) -> Result<Trees, Stop>
     ensures { Answers result (given command items) }
 {
     match command {
-        Command::Flatten => flattened(alloc, items),
+        Command::Flatten => flattened(alloc, weight, items),
         Command::Expand => Ok(items),
     }
 }
 
-/// The flattened form of expanded items (JSON-LD 1.1 API, section 7.1). They are taken apart for their node map, which is made of the sums of
-/// their chunks, and that for its nodes.
-fn flattened(alloc: Global, items: Trees) -> Result<Trees, Stop>
+/// The flattened form of expanded items (JSON-LD 1.1 API, section 7.1). Their node map is made of the sums of the chunks into which they are cut by
+/// this weight. They are let go once they are summed, and the node map is taken apart for its nodes.
+fn flattened(alloc: Global, weight: u64, items: Trees) -> Result<Trees, Stop>
     ensures { Answers result (flattened items) }
 {
-    let (map, _) = node_map_by_parts(alloc, items)?;
+    let (map, _) = node_map_by_parts(alloc, items, weight)?;
     let nodes = into_flattened(alloc, map)?;
     Ok(nodes)
 }

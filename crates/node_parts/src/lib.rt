@@ -5,7 +5,6 @@
 //! the same contract as generation at once.
 #![tactic(auto)]
 
-mod chunks;
 mod digest;
 mod parts;
 
