@@ -6,6 +6,7 @@
 //! | `ways` | divides the items into chunks, merges the runs of each shard, renames them and joins the shards, in each of the ways below | how many ways there are, whether all give what generation gives, and that |
 //! | `sides` | takes each item as a chunk of its own, merges the runs of each shard from the left and from the right, and renames them | how many shards there are, of one to four, and whether both give the same shard each time |
 //! | `ops` | takes the items as a chunk: its number, its graph, the subject and the property under which they stand, and `reverse` or `-` stand before them | the chunk's operations |
+//! | `cut` | cuts the items by the weight that stands before them, which is at least 1 | the chunks |
 //! | `spine` | gives the operations of such a chunk as a spine, whose number stands before that of the chunk | the spine's operations |
 //!
 //! A way is a division of the items, an order of merging, a number of shards, and an order in which the shards are joined:
@@ -21,6 +22,7 @@
 //! A line that begins with `#` says what the cases behind it show, and is written as it is. An empty line is passed over.
 #![tactic(auto)]
 
+mod chunks;
 mod division;
 mod merging;
 mod operations;
@@ -29,6 +31,7 @@ mod saying;
 mod sides;
 mod ways;
 
+use chunks::{chunks_text, weighed_of};
 use ld_json::{ReadRefusal, Tree, Trees, read_tree};
 use operations::{range_of, range_text, spine_text};
 use sides::both_sides;
@@ -65,6 +68,7 @@ fn answer_of(alloc: Global, line: &str) -> Result<String, AllocError> {
         "sides" => sides_answer(alloc, rest)?,
         "ops" => range_answer(alloc, rest, None)?,
         "spine" => spine_answer(alloc, rest)?,
+        "cut" => chunks_answer(alloc, rest)?,
         _ => None,
     };
     match answer {
@@ -92,6 +96,16 @@ fn spine_answer(alloc: Global, text: &str) -> Result<Option<String>, AllocError>
     match number.parse() {
         Ok(number) => range_answer(alloc, fields, Some(number)),
         Err(_) => Ok(None),
+    }
+}
+
+fn chunks_answer(alloc: Global, text: &str) -> Result<Option<String>, AllocError> {
+    let Some((weight, items)) = weighed_of(text) else {
+        return Ok(None);
+    };
+    match document_of(alloc, items)? {
+        Some(items) => Ok(Some(chunks_text(alloc, weight, items.as_slice())?)),
+        None => Ok(None),
     }
 }
 

@@ -74,7 +74,7 @@ fn push_names(
     Ok(())
 }
 
-fn push_name(alloc: Global, out: &mut String, name: &Name) -> Result<(), AllocError> {
+pub(crate) fn push_name(alloc: Global, out: &mut String, name: &Name) -> Result<(), AllocError> {
     match name {
         Name::Iri(text) => {
             out.push_str("<")?;
@@ -109,7 +109,7 @@ fn push_entries(alloc: Global, out: &mut String, entries: &Entries) -> Result<()
     out.push_str(" ]")
 }
 
-fn push_value(alloc: Global, out: &mut String, value: &Tree) -> Result<(), AllocError> {
+pub(crate) fn push_value(alloc: Global, out: &mut String, value: &Tree) -> Result<(), AllocError> {
     let bytes = text_of(alloc, value)?;
     out.push_str(str::from_utf8(bytes.as_slice()).unwrap_or("no text"))
 }
