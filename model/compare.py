@@ -4,6 +4,9 @@
     python3 compare.py PROGRAM --seed S --count N --jobs J
     python3 compare.py PROGRAM --show SEED:NUMBER [--keep FOLDER]
 
+With `--weights 1,7,2000` the program runs each case once more for each of these
+weights, and its answer must be the same.
+
 Each case runs in a scratch working folder that has `contexts/` with the case's
 files.  Standard input is a file.  Status, standard output and standard error
 are compared.  Ends with status 1 where any case differs.
@@ -136,6 +139,11 @@ def model_answer(one):
         return Answer("model raised", b"", traceback.format_exc().encode())
 
 
+def same(one, other):
+    return (one.status, one.out, one.err) == (
+        other.status, other.out, other.err)
+
+
 def label(got):
     """What an answer is counted as."""
     if type(got.status) is not int or got.status < 0:
@@ -163,7 +171,7 @@ class Tally:
     def add(self, number, due, got, chain):
         self.model[label(due)] += 1
         self.program[label(got)] += 1
-        if (due.status, due.out, due.err) == (got.status, got.out, got.err):
+        if same(due, got):
             self.agreed += 1
         elif ((got.status, got.out, got.err) == (7, b"", MEMORY)
               and due.deepest >= chain):
@@ -180,19 +188,31 @@ def _open_scratch(program, seconds):
     _scratch = Scratch(program, seconds)
 
 
+def weighed(one, weights):
+    """The case, and the same with each of the weights."""
+    if one.kind == "words":
+        return [one]
+    return [one] + [one._replace(words=one.words + ["--weight", weight])
+                    for weight in weights]
+
+
 def _some_cases(task):
-    seed, first, last, chain = task
+    seed, first, last, chain, weights = task
     tally = Tally()
     for number in range(first, last):
         one = case(seed, number)
-        tally.add(number, model_answer(one), _scratch.run(one), chain)
+        due = model_answer(one)
+        answers = [_scratch.run(each) for each in weighed(one, weights)]
+        others = [got for got in answers[1:] if not same(got, answers[0])]
+        tally.add(number, due, others[0] if others else answers[0], chain)
     return tally
 
 
 def compare(program, options):
     """Runs all cases and joins what came of them."""
     end = options.first + options.count
-    tasks = [(options.seed, first, min(first + AT_ONCE, end), options.chain)
+    tasks = [(options.seed, first, min(first + AT_ONCE, end), options.chain,
+              options.weights)
              for first in range(options.first, end, AT_ONCE)]
     whole = Tally()
     if options.jobs == 1:
@@ -217,24 +237,26 @@ def compare(program, options):
     return whole
 
 
-def show_both(program, seed, number, seconds):
+def show_both(program, seed, number, seconds, weights):
     """A case, whole, and what both sides answer."""
     one = case(seed, number)
     print("--- %d:%d (%s)" % (seed, number, one.kind))
     show(one)
     scratch = Scratch(program, seconds)
     try:
-        got = scratch.run(one)
+        answers = [scratch.run(each) for each in weighed(one, weights)]
     finally:
         scratch.close()
     due = model_answer(one)
-    for name, side in (("model", due), ("program", got)):
+    got = answers[0]
+    others = [side for side in answers[1:] if not same(side, got)]
+    for name, side in [("model", due), ("program", got)] + [
+            ("at another weight", side) for side in others]:
         print("%-8s status %s" % (name, side.status))
         print("%-8s out %s" % (name, readable(side.out)))
         print("%-8s err %s" % (name, readable(side.err)))
     print("%s; calls for terms and contexts under way: %d" % (
-        "same" if (due.status, due.out, due.err)
-        == (got.status, got.out, got.err) else "different", due.deepest))
+        "same" if same(due, got) and not others else "different", due.deepest))
 
 
 def keep(program, seed, number, folder):
@@ -278,6 +300,9 @@ def main():
                        help="how long the program may take for a case")
     words.add_argument("--chain", type=int, default=200,
                        help="how many calls under way make a long chain")
+    words.add_argument("--weights", default=[], metavar="W,W,..",
+                       type=lambda text: text.split(","),
+                       help="weights at which each case is run once more")
     words.add_argument("--show", metavar="SEED:NUMBER")
     words.add_argument("--keep", metavar="FOLDER")
     options = words.parse_args()
@@ -287,12 +312,13 @@ def main():
         seed, number = map(int, options.show.split(":"))
         if options.keep:
             keep(program, seed, number, os.path.abspath(options.keep))
-        show_both(program, seed, number, options.seconds)
+        show_both(program, seed, number, options.seconds, options.weights)
         return 0
     tally = compare(program, options)
     tally.differing.sort()
     for number in tally.differing[:options.shown]:
-        show_both(program, options.seed, number, options.seconds)
+        show_both(program, options.seed, number, options.seconds,
+                  options.weights)
     if len(tally.differing) > options.shown:
         print("--- others: " + " ".join(
             "%d:%d" % (options.seed, number)

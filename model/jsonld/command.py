@@ -16,6 +16,8 @@ from .refusals import ConflictingIndexes, Refused
 
 COMMANDS = ("flatten", "expand")
 LARGEST_INPUT = 268435456
+HEAVIEST = 1000000
+"""The greatest weight. A weight has no say in the answer."""
 
 
 class Usage(Exception):
@@ -29,6 +31,18 @@ class Order:
         self.command = command
         self.base = None
         self.contexts = False
+        self.weight = None
+
+
+def whole_number(text, least, greatest):
+    """The number that a value gives: digits without a leading zero or sign."""
+    if not text or not set(text) <= set("0123456789"):
+        raise Usage()
+    if text[0] == "0" and text != "0" or len(text) > 20:
+        raise Usage()
+    if not least <= int(text) <= greatest:
+        raise Usage()
+    return int(text)
 
 
 def read_words(words):
@@ -49,14 +63,18 @@ def read_words(words):
         name, equals, value = word.partition("=")
         if name == "--contexts" and not equals and not order.contexts:
             order.contexts = True
-        elif name == "--base" and order.base is None:
+        elif name in ("--base", "--weight"):
             if not equals:
                 value = next(rest, "-")
                 if value.startswith("-"):
                     raise Usage()
-            if not is_well_formed(value):
+            if name == "--weight" and order.weight is None:
+                order.weight = whole_number(value, 1, HEAVIEST)
+            elif name == "--base" and order.base is None \
+                    and is_well_formed(value):
+                order.base = value
+            else:
                 raise Usage()
-            order.base = value
         else:
             raise Usage()
     return order

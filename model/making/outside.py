@@ -127,7 +127,11 @@ def words_case(rng):
             ["--base", "\u00e9:x"], ["--base", "x:\u00e9"], ["-c"], ["--con"],
             ["--base", "1x:y"], ["--base", "x:\udcff"], ["--version"],
             ["flatten"], ["--base", "x:"], ["--base", "x:\\"], ["--Base", E],
-            ["--base", "x:`"], ["--base", "x:\x7f"], ["--base", " x:y"]))
+            ["--base", "x:`"], ["--base", "x:\x7f"], ["--base", " x:y"],
+            ["--weight", "1"], ["--weight=2000"], ["--weight", "1000000"],
+            ["--weight", maker.one("0", "01", "+1", "-1", "1000001", "", "x",
+                                   "1 ", "\u0661", "1.0", "9" * 30)],
+            ["--weight="], ["--weight"], ["--weight", "--contexts"]))
     if maker.likely(0.1):
         words = []
     folder = {"index.txt": "http://e/c1 c1\n", "c1": {"@context": {}}}
