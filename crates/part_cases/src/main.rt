@@ -7,6 +7,8 @@
 //! | `sides` | takes each item as a chunk of its own, merges the runs of each shard from the left and from the right, and renames them | how many shards there are, of one to four, and whether both give the same shard each time |
 //! | `ops` | takes the items as a chunk: its number, its graph, the subject and the property under which they stand, and `reverse` or `-` stand before them | the chunk's operations |
 //! | `cut` | cuts the items by the weight that stands before them, which is at least 1 | the chunks |
+//! | `sums` | sums such a chunk as a range that stays, and as a spine | in how many of one to four shards each is the sum of the chunk's operations, and that in one |
+//! | `behind` | sums such a chunk, and behind it one with the same items and the next number | whether spines give the same, and the sum |
 //! | `spine` | gives the operations of such a chunk as a spine, whose number stands before that of the chunk | the spine's operations |
 //!
 //! A way is a division of the items, an order of merging, a number of shards, and an order in which the shards are joined:
@@ -29,6 +31,7 @@ mod operations;
 mod outcome;
 mod saying;
 mod sides;
+mod sums;
 mod ways;
 
 use chunks::{chunks_text, weighed_of};
@@ -37,10 +40,24 @@ use operations::{range_of, range_text, spine_text};
 use sides::both_sides;
 use std::alloc::{AllocError, Global};
 use std::io;
+use sums::{behind_text, sums_text};
 use ways::all_ways;
 
 /// How many items a document has at most.
 const ITEMS: usize = 8;
+
+/// What a case asks of a range.
+#[derive(Clone, Copy)]
+enum Asked {
+    /// Its operations.
+    Ops,
+    /// The operations of the spine with this number that has its own.
+    Spine(u32),
+    /// Its sum.
+    Sums,
+    /// Its sum, and behind it that of the chunk with the next number.
+    Behind,
+}
 
 fn main(rt: HostRuntime) -> io::Result<()> {
     for line in rt.lines(rt.alloc()) {
@@ -66,7 +83,9 @@ fn answer_of(alloc: Global, line: &str) -> Result<String, AllocError> {
     let answer = match word {
         "ways" => ways_answer(alloc, rest)?,
         "sides" => sides_answer(alloc, rest)?,
-        "ops" => range_answer(alloc, rest, None)?,
+        "ops" => range_answer(alloc, rest, Asked::Ops)?,
+        "sums" => range_answer(alloc, rest, Asked::Sums)?,
+        "behind" => range_answer(alloc, rest, Asked::Behind)?,
         "spine" => spine_answer(alloc, rest)?,
         "cut" => chunks_answer(alloc, rest)?,
         _ => None,
@@ -94,7 +113,7 @@ fn sides_answer(alloc: Global, text: &str) -> Result<Option<String>, AllocError>
 fn spine_answer(alloc: Global, text: &str) -> Result<Option<String>, AllocError> {
     let (number, fields) = text.split_once(' ').unwrap_or((text, ""));
     match number.parse() {
-        Ok(number) => range_answer(alloc, fields, Some(number)),
+        Ok(number) => range_answer(alloc, fields, Asked::Spine(number)),
         Err(_) => Ok(None),
     }
 }
@@ -109,21 +128,20 @@ fn chunks_answer(alloc: Global, text: &str) -> Result<Option<String>, AllocError
     }
 }
 
-/// The operations of a range; where there is a number of a spine, as those of that.
-fn range_answer(
-    alloc: Global,
-    fields: &str,
-    spine: Option<u32>,
-) -> Result<Option<String>, AllocError> {
+/// What is asked of a range.
+fn range_answer(alloc: Global, fields: &str, asked: Asked) -> Result<Option<String>, AllocError> {
     let Some(range) = range_of(fields) else {
         return Ok(None);
     };
     let Some(items) = document_of(alloc, range.items)? else {
         return Ok(None);
     };
-    let text = match spine {
-        Some(number) => spine_text(alloc, number, &range, items.as_slice())?,
-        None => range_text(alloc, &range, items.as_slice())?,
+    let items = items.as_slice();
+    let text = match asked {
+        Asked::Ops => range_text(alloc, &range, items)?,
+        Asked::Spine(number) => spine_text(alloc, number, &range, items)?,
+        Asked::Sums => sums_text(alloc, &range, items)?,
+        Asked::Behind => behind_text(alloc, &range, items)?,
     };
     Ok(Some(text))
 }

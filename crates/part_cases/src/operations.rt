@@ -13,7 +13,7 @@ use std::alloc::{AllocError, Global};
 #[derive(Clone, Copy)]
 pub(crate) struct Range<'a> {
     /// The number of the chunk.
-    number: u32,
+    pub(crate) number: u32,
     /// The graph.
     graph: &'a str,
     /// Where the items stand in it; None where they stand under no property.
@@ -73,13 +73,19 @@ pub(crate) fn spine_text(
     ops_text(alloc, &ops)
 }
 
-fn range_ops(alloc: Global, range: &Range<'_>, items: &[Tree]) -> Result<Ops, AllocError> {
+/// The operations of a range.
+pub(crate) fn range_ops(
+    alloc: Global,
+    range: &Range<'_>,
+    items: &[Tree],
+) -> Result<Ops, AllocError> {
     let chunk = chunk_of(alloc, range, items)?;
     let ops = ops_of(alloc, &chunk, range.number)?;
     Ok(ops)
 }
 
-fn chunk_of<'a>(
+/// The range, as a chunk.
+pub(crate) fn chunk_of<'a>(
     alloc: Global,
     range: &Range<'_>,
     items: &'a [Tree],

@@ -74,6 +74,7 @@ fn push_names(
     Ok(())
 }
 
+/// A name, as `ops_text` has it.
 pub(crate) fn push_name(alloc: Global, out: &mut String, name: &Name) -> Result<(), AllocError> {
     match name {
         Name::Iri(text) => {
@@ -89,8 +90,9 @@ pub(crate) fn push_name(alloc: Global, out: &mut String, name: &Name) -> Result<
     }
 }
 
+/// An entry: a value as JSON, a reference as a name, a list in brackets.
 #[cycle(entry)]
-fn push_entry(alloc: Global, out: &mut String, entry: &Entry) -> Result<(), AllocError> {
+pub(crate) fn push_entry(alloc: Global, out: &mut String, entry: &Entry) -> Result<(), AllocError> {
     match entry {
         Entry::Value(value) => push_value(alloc, out, value),
         Entry::Reference(name) => push_name(alloc, out, name),
