@@ -1,5 +1,6 @@
 // What the call of a case gives.
 use crate::case::{AddCase, Case, FinishCase, RangeCase, ValueCase};
+use crate::cutting::plan_text;
 use case_tables::Code;
 use ctx_process::{ContextStop, Flags, process};
 use ctx_store::Store;
@@ -75,10 +76,23 @@ impl From<ExpandStop> for Stop {
 
 /// The answer to a case, in one line.
 pub(crate) fn answer(alloc: Global, store: &Store, case: &Case<'_>) -> Result<String, AllocError> {
-    match given(alloc, store, case) {
-        Ok(Some(tree)) => tree_text(alloc, &tree),
-        Ok(None) => String::from_str(alloc, "nothing"),
+    match given_text(alloc, store, case) {
+        Ok(text) => Ok(text),
         Err(stop) => stop_text(alloc, stop),
+    }
+}
+
+fn given_text(alloc: Global, store: &Store, case: &Case<'_>) -> Result<String, Stop> {
+    if let Case::Cut(cut) = case {
+        let text = plan_text(alloc, store, cut)?;
+        return match text {
+            Some(text) => Ok(text),
+            None => Err(Stop::NoCase),
+        };
+    }
+    match given(alloc, store, case)? {
+        Some(tree) => Ok(tree_text(alloc, &tree)?),
+        None => Ok(String::from_str(alloc, "nothing")?),
     }
 }
 
@@ -89,6 +103,7 @@ fn given(alloc: Global, store: &Store, case: &Case<'_>) -> Result<Option<Tree>, 
         Case::Value(value) => value_given(alloc, store, value),
         Case::Add(add) => Ok(Some(added(alloc, add)?)),
         Case::Finish(finish) => finished(alloc, finish),
+        Case::Cut(_) => Err(Stop::NoCase),
     }
 }
 

@@ -11,6 +11,8 @@ pub(crate) enum Case<'a> {
     Add(AddCase<'a>),
     /// The entries of a map are tested.
     Finish(FinishCase<'a>),
+    /// A document is cut.
+    Cut(CutCase<'a>),
 }
 
 /// A call of `expand_range`.
@@ -67,6 +69,17 @@ pub(crate) struct FinishCase<'a> {
     pub(crate) map: &'a str,
 }
 
+/// Calls of `cut` and `is_legal`.
+#[derive(Clone, Copy)]
+pub(crate) struct CutCase<'a> {
+    /// The weight.
+    pub(crate) weight: u64,
+    /// The base URL.
+    pub(crate) base: Option<&'a str>,
+    /// The document.
+    pub(crate) document: &'a str,
+}
+
 /// The case that a line says; None where it says none.
 pub(crate) fn case_of(line: &str) -> Option<Case<'_>> {
     let (word, fields) = line.split_once('\t')?;
@@ -75,6 +88,7 @@ pub(crate) fn case_of(line: &str) -> Option<Case<'_>> {
         "value" => Some(Case::Value(value_of(fields)?)),
         "add" => Some(Case::Add(add_of(fields)?)),
         "finish" => Some(Case::Finish(finish_of(fields)?)),
+        "cut" => Some(Case::Cut(cut_of(fields)?)),
         _ => None,
     }
 }
@@ -126,6 +140,16 @@ fn finish_of(fields: &str) -> Option<FinishCase<'_>> {
     Some(FinishCase {
         property: field(property),
         map,
+    })
+}
+
+fn cut_of(fields: &str) -> Option<CutCase<'_>> {
+    let (weight, rest) = fields.split_once('\t')?;
+    let (base, document) = rest.split_once('\t')?;
+    Some(CutCase {
+        weight: weight.parse().ok()?,
+        base: field(base),
+        document,
     })
 }
 

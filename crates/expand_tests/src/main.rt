@@ -9,6 +9,7 @@
 //! | `value` | `expand_value` | the property, the base URL, the contexts, the value |
 //! | `add` | `add_value` | `array` where the entry becomes an array, the key, the map, the value |
 //! | `finish` | `finish_map` | the active property, the map |
+//! | `cut` | `cut`, and `is_legal` of its plan and of the plan with each piece twice | the weight, the base URL, the document |
 //!
 //! `-` stands for a field that is absent. A place is an array of keys and numbers. Several contexts stand one behind another with ` then `
 //! between them, and are processed in that order, beginning with the initial context. Contexts that have an IRI come from the folder
@@ -16,11 +17,13 @@
 //!
 //! A line that begins with `#` says what the cases behind it show, and is written as it is. An empty line is passed over. For a case it
 //! writes the line, and in a line below, behind an arrow, what the call gives: a JSON text, `nothing`, or the standard's code, for
-//! `expand_range` with the place of the error.
+//! `expand_range` with the place of the error. Of a plan it gives the pieces: the place of the array, the numbers of the first item and of the one
+//! behind the last, the active property, and whether the array stands in a map of indexes.
 #![tactic(auto)]
 
 mod answer;
 mod case;
+mod cutting;
 
 use answer::answer;
 use case::case_of;
