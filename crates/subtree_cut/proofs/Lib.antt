@@ -4,3 +4,4 @@ mod InOrder
 mod Weighed
 mod Noted
 mod Each
+mod Stopped

@@ -16,7 +16,7 @@ use ld_tree::Tree;
 use std::alloc::{AllocError, Global};
 
 /// A plan has no more pieces than this.
-const MOST_PIECES: usize = 4096;
+pub(crate) const MOST_PIECES: usize = 4096;
 
 /// The plan of a document that is cut into pieces of about this weight, of which there are at most 4,096. A value weighs as much as there are
 /// values in it, itself included. `base` is the document's base URL; the contexts that it names come from `store` alone. The weight
@@ -41,7 +41,8 @@ pub fn cut<'t, 'a>(
     plan_of(alloc, planner.into_notes())
 }
 
-/// The plan for this limit, or for the double of it where it has too many pieces, and so on, so many times.
+/// The plan for this limit, or for the double of it where it has too many pieces, and so on, so many times. A plan that has too many is not made
+/// to its end.
 fn cut_within<'t>(
     alloc: Global,
     options: &Options<'_>,
@@ -51,10 +52,11 @@ fn cut_within<'t>(
 ) -> Result<Planner<'t>, AllocError>
     ensures { IfOk result (λ p. p.pieces ≡ model.cut_within times (options_view options.now) (view tree.now) limit) }
 {
-    let planner = Planner::new(alloc, options, tree, limit)?;
     if times == 0 {
-        return Ok(planner);
+        let whole = Planner::new(alloc, options, tree, limit)?;
+        return Ok(whole);
     }
+    let planner = Planner::of_few(alloc, options, tree, limit)?;
     if planner.len() <= MOST_PIECES {
         return Ok(planner);
     }

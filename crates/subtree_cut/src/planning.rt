@@ -1,16 +1,20 @@
 // Planning where a document is cut, for one limit.
-ghost use Rattle.std.specs.Prelude.{◌≡◌, [], IfOk, OnOk, Ok, length};
+ghost use Rattle.std.specs.Prelude.{◌≡◌, [], IfOk, OnOk, Ok, Err, length};
+ghost use Rattle.case_tables.specs.declared.code.Code.TheVariants.{ContextOverflow};
 ghost use Rattle.ld_model.specs.Tree.{trees_of};
 ghost use Rattle.ld_tree.specs.View.{trees_view, view};
 ghost use Rattle.expand_model.specs.Over as over;
 ghost use Rattle.expand_types.specs.View.{options_view, scope_view, word_view};
 ghost use Rattle.cut_model.specs.Planning as model;
 ghost use Rattle.cut_model.specs.Reached.{piece_of};
+ghost use Rattle.stop_laws.specs.Stopping.{chooses_or_stops};
 ghost use Rattle.tree_expand.specs.View.{at_view};
 ghost use Rattle.subtree_cut.specs.Choices.{note_view, notes_view, is_want as want};
 
 use crate::choosing::{Choice, choose};
+use crate::cutting::MOST_PIECES;
 use crate::standing::{items_at, those_standing};
+use case_tables::Code;
 use ctx_types::ActiveContext;
 use expand_types::{Options, place_of};
 use ld_json::Place;
@@ -18,7 +22,7 @@ use ld_text::Text;
 use ld_tree::{Tree, Trees};
 use std::alloc::{AllocError, Global};
 use std::marker::Model;
-use tree_expand::{Asked, At, ExpandStop, Given, Ranges, document_over};
+use tree_expand::{Asked, At, ExpandStop, Given, Ranges, Refusal, document_over};
 
 /// A piece that is noted, with a context of its own, which has the term definitions in common with all others.
 #[derive(Drop)]
@@ -72,6 +76,30 @@ impl<'t> Planner<'t> {
         if is_want(&outcome) {
             return Err(AllocError);
         }
+        Ok(planner)
+    }
+
+    /// The same, but planning ends once there are more pieces than a plan has: the pieces are of no use then.
+    pub(crate) fn of_few(
+        alloc: Global,
+        options: &Options<'_>,
+        tree: &'t Tree,
+        limit: u64,
+    ) -> Result<Planner<'t>, AllocError>
+        ensures { IfOk result (λ p. p ≡ over.state_of (over.document_over (options_view options.now) chooses_or_stops model.opens_or_takes (view tree.now) (model.empty_plan limit))) }
+    {
+        let mut few = FewPieces {
+            planner: Planner {
+                root: tree,
+                limit,
+                notes: Vec::new(alloc),
+            },
+        };
+        let outcome = document_over(alloc, options, &mut few, tree);
+        if is_want(&outcome) {
+            return Err(AllocError);
+        }
+        let FewPieces { planner } = few;
         Ok(planner)
     }
 
@@ -157,6 +185,60 @@ impl<'t> Ranges for Planner<'t> {
     }
 }
 
+/// A plan under way, which ends once it has more pieces than a plan has.
+#[derive(Drop)]
+struct FewPieces<'t> {
+    planner: Planner<'t>,
+}
+
+impl<'t> Model for FewPieces<'t> {
+    ghost use Rattle.std.specs.Coded.{codes};
+    ghost use Rattle.ctx_types.specs.ContextCode.{settings_code};
+    ghost use Rattle.cut_model.specs.Planning.{Plan};
+    ghost use Rattle.subtree_cut.specs.PlanCode.{items_code};
+
+    ghost Value = { Plan };
+
+    ghost coded = { Prim.hlevel (codes, settings_code, items_code) };
+
+    ghost view = { λ p. p.planner };
+}
+
+impl<'t> Ranges for FewPieces<'t> {
+    ghost use Rattle.cut_model.specs.Planning.{opens_or_takes};
+    ghost use Rattle.stop_laws.specs.Stopping.{chooses_or_stops};
+
+    ghost asked = { chooses_or_stops };
+
+    ghost settles = { opens_or_takes };
+
+    fn ask(
+        &mut self,
+        alloc: Global,
+        at: &At<'_>,
+        rest: &[Tree],
+        number: u64,
+    ) -> Result<Asked, AllocError> {
+        if self.planner.len() > MOST_PIECES {
+            return Ok(Asked::Answers(stopped(alloc)));
+        }
+        let asked = self.planner.ask(alloc, at, rest, number)?;
+        Ok(asked)
+    }
+
+    fn settle(
+        &mut self,
+        alloc: Global,
+        at: &At<'_>,
+        rest: &[Tree],
+        number: u64,
+        mark: usize,
+    ) -> Result<bool, AllocError> {
+        let kept = self.planner.settle(alloc, at, rest, number, mark)?;
+        Ok(kept)
+    }
+}
+
 /// The range of these items, the first of which has this number.
 fn note_of<'t>(
     alloc: Global,
@@ -186,6 +268,19 @@ fn nothing(alloc: Global, more: usize) -> Given
     Given {
         more,
         outcome: Ok(Trees::new(alloc)),
+    }
+}
+
+/// What ends planning. Nobody sees the error.
+fn stopped(alloc: Global) -> Given
+    ensures { result ≡ record { more = 0; outcome = Err (record { code = ContextOverflow; place = [] }) } }
+{
+    Given {
+        more: 0,
+        outcome: Err(Refusal {
+            code: Code::ContextOverflow,
+            place: Place::new(alloc),
+        }),
     }
 }
 
