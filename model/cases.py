@@ -42,6 +42,9 @@ def written(folder, maker):
             else bytes_of(part, maker) for name, part in folder.items()}
 
 
+WEIGHTS = (1, 1, 2, 3, 4, 5, 7, 10, 20, 100, 2000, 1000000)
+
+
 def words_for(maker, folder):
     made = ["flatten" if maker.likely(maker.flattens) else "expand"]
     if maker.likely(0.55):
@@ -51,6 +54,8 @@ def words_for(maker, folder):
     if folder is not None and maker.likely(0.97) or maker.likely(0.02):
         made.insert(1 + maker.times(len(made) - 1)
                     if len(made) < 3 else maker.one(1, 3), "--contexts")
+    if maker.likely(0.3):
+        made.extend(["--weight", str(maker.of(WEIGHTS))])
     return made
 
 

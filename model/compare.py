@@ -192,7 +192,11 @@ def weighed(one, weights):
     """The case, and the same with each of the weights."""
     if one.kind == "words":
         return [one]
-    return [one] + [one._replace(words=one.words + ["--weight", weight])
+    words = list(one.words)
+    if "--weight" in words:
+        at = words.index("--weight")
+        del words[at:at + 2]
+    return [one] + [one._replace(words=words + ["--weight", weight])
                     for weight in weights]
 
 
