@@ -6,6 +6,7 @@ Usage: run.py PROGRAM [BYTES ..]       plain documents of about so many bytes (1
        run.py PROGRAM made [BYTES ..]  documents of persons.py, records.py and catalogue.py (10 and 100 MB), expanded and flattened
        run.py PROGRAM contexts [COUNT ..]  documents of each shape of contexts.py (10,000 and 100,000), expanded
        run.py PROGRAM shapes [COUNT ..]  documents of each shape of shapes.py (10,000, 30,000 and 100,000)
+       run.py PROGRAM weights [BYTES ..]  plain documents and records (1 and 10 MB), and shapes that are cut at some depth, at several weights
        run.py PROGRAM greatest        two documents of 256 MiB, the greatest that is read: the usual one, and one of small objects
 
 PROGRAM is for instance crates/jsonld_flat/out/jsonld_flat. Prints one table: bytes, processor time, peak memory, memory for each
@@ -26,6 +27,8 @@ import contexts  # noqa: E402
 import shapes  # noqa: E402
 
 GREATEST = 268_435_456
+WEIGHTS = ("1", "20", "2000", "1000000")
+CUT = (("list", 10**5), ("pairs", 10**5), ("array", 10**6), ("graph", 10**5), ("property", 10**5), ("hidden_error", 10**5))
 
 
 def measure(command, path):
@@ -121,6 +124,18 @@ def each_shape(program, path, counts):
             row(program, "%s %d" % (shape, count), path)
 
 
+def each_weight(program, path, sizes):
+    """Processor seconds at each weight, and how many times that of the greatest weight it is."""
+    print("%-30s %s" % ("document", " ".join("%14s" % weight for weight in WEIGHTS)))
+    made = [(maker, size, (maker + ".py", size)) for maker in ("plain", "records") for size in sizes]
+    made += [(shape, count, ("shapes.py", shape, count)) for shape, count in CUT]
+    for name, count, words in made:
+        written(path, *words)
+        for word in ("expand", "flatten"):
+            took = [min(measure([program, word, "--weight", weight], path)[1] for _ in range(3)) for weight in WEIGHTS]
+            print("%-30s %s" % ("%s %d, %s" % (name, count, word), " ".join("%6.3f (%5.2f)" % (cpu, cpu / took[-1]) for cpu in took)), flush=True)
+
+
 def greatest(program, path):
     written(path, "plain.py", GREATEST - 200)
     row(program, "plain", path)
@@ -145,6 +160,8 @@ def main():
         os.chdir(folder)
         if words[:1] == ["shapes"]:
             each_shape(program, path, [int(word) for word in words[1:]] or [10**4, 3 * 10**4, 10**5])
+        elif words[:1] == ["weights"]:
+            each_weight(program, path, [int(word) for word in words[1:]] or [10**6, 10**7])
         elif words == ["greatest"]:
             greatest(program, path)
         elif words[:1] == ["expand"]:

@@ -43,6 +43,11 @@ SHAPES = {
     "list": "one list of COUNT items",
     "lists": "COUNT lists under one property, all equal",
     "nested_lists": "COUNT lists nested sixty deep",
+    "array": "one item with COUNT texts under one property",
+    "pairs": "one item with an array of two, of which the second is such an array, and so on sixty deep, with COUNT texts in all",
+    "graph": "one graph of COUNT nodes",
+    "property": "COUNT nodes under one property of one node",
+    "hidden_error": "a block of included nodes that has just a reverse property with COUNT nodes, and COUNT texts behind it",
     "peers": "COUNT records under a vocabulary, with numbers, lists and nodes without an id",
 }
 ONE = '"@id":"http://g/one"'
@@ -54,6 +59,16 @@ def value(i):
 
 def reference(i):
     return '{"@id":"http://g/n%d"}' % i
+
+
+def node(i):
+    return '{"@id":"http://g/n%d","http://g/v#p":"v"}' % i
+
+
+def pairs(depth, count):
+    """Arrays of two, with the texts spread over the levels."""
+    here = ",".join('"v%d"' % i for i in range(max(1, count // 60)))
+    return "[%s]" % here if depth == 0 else "[[%s],%s]" % (here, pairs(depth - 1, count))
 
 
 def prop(i):
@@ -122,6 +137,11 @@ def rows(shape, count):
         "lists": lambda: [item(['{"@list":["v"]}'] * count)],
         "nested_lists": lambda: [item(['{"@list":[' * 60 + '"v"' + ']}' * 60]) for _ in numbers],
         "peers": lambda: ['{"@context":{"@vocab":"http://g/v#"},"name":"n%d","size":%d,"parts":{"@list":[%d,"x",true]},"maker":{"name":"m%d","age":%d}}' % (i, i, i, i % 100, i % 90) for i in numbers],
+        "array": lambda: [item('"v%d"' % i for i in numbers)],
+        "pairs": lambda: [item([pairs(60, count)])],
+        "graph": lambda: ['{"@id":"http://g/g","@graph":[%s]}' % ",".join(map(node, numbers))],
+        "property": lambda: [item(map(node, numbers))],
+        "hidden_error": lambda: ['{"@included":{"@reverse":{"http://g/v#r":[%s]}},"http://g/v#z":[%s]}' % (",".join(map(node, numbers)), ",".join('"v%d"' % i for i in numbers))],
         "thousand_keys": lambda: ["{%s}" % ",".join('"k%03d":%d' % (i % 1000, i) for i in shuffled(numbers))],
     }
     if shape not in some:
